@@ -1,0 +1,9 @@
+pub mod Choice
+pub mod Loop
+pub mod Ordered
+pub mod Bytes
+pub mod Words
+pub mod Registers
+pub mod Sequences
+pub mod Branches
+pub mod Blocks
