@@ -7,3 +7,16 @@ pub mod Registers
 pub mod Sequences
 pub mod Branches
 pub mod Blocks
+pub mod Address
+pub mod Image
+pub mod Slices
+pub mod Known
+pub mod JumpTable
+pub mod Step
+pub mod Walk
+pub mod Analyze
+pub mod TailCall
+pub mod Finalize
+pub mod Settle
+pub mod Map
+pub mod Accounted
