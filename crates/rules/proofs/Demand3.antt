@@ -1,42 +1,35 @@
 -- Demand 3 of `detect`: an accepted map accounts for each code word.
-use Prim.Native.Nat.{ℕ, zero, suc, _+_, _-_, _*_, _/_, _%_, _≤_, _<_, min}
-use mathlib.Core.Path.{_≡_, refl, sym, _∙_, ap, subst}
-use mathlib.Core.Bool.{Bool, true, false, false≢true, not, _&&_, _||_}
-use mathlib.Core.List.{List, [], _∷_, _++_, map}
-use mathlib.Core.Logic.{_⊎_, inl, inr}
-use mathlib.Core.Option.{Option, none as nothing, some}
+use Prim.Native.Nat.{ℕ, _+_, _%_, _≤_}
+use mathlib.Core.Path.{_≡_, refl, sym, _∙_, subst}
+use mathlib.Core.Bool.{true, false, false≢true, not}
+use mathlib.Core.List.{List, [], _∷_, map}
+use mathlib.Core.Logic.{inl}
+use mathlib.Core.Option.{none as nothing}
 use native.Mathlib.Omega.{arith}
-use lib.ListN.{length}
-use lib.Dec.{ltb, leb, eqb}
-use borrow.Author.Tests.{leb-true, ltb-true, ltb-false, eqb-true, eqb-false}
-use Rattle.rules.specs.Choice.{if, by-if, if-true, if-false, any, Answer, ok, fault, _>>=_}
-use Rattle.rules.specs.Loop.{Holds, good, none, holds-at, bind-holds, map-holds, if-holds, both, trivial, loop, loop-keeps}
-use Rattle.rules.specs.Ordered.{put, has, upper, first, empty, Rising, Above}
-use Rattle.rules.specs.Address.{key, address-of, section-of}
+use borrow.Author.Tests.{eqb-true, eqb-false}
+use Rattle.rules.specs.Choice.{by-if, any, Answer, ok, fault, _>>=_}
+use Rattle.rules.specs.Loop.{Holds, good, none, holds-at, bind-holds, map-holds, if-holds, both, trivial, loop-keeps}
+use Rattle.rules.specs.Ordered.{put, upper, first, empty, Rising}
+use Rattle.rules.specs.Address.{key, section-of}
 use Rattle.rules.specs.Image
 use Rattle.rules.specs.Image.{Symbol}
 use Rattle.rules.specs.Known.{Entry, entryOf, new-entry, is-unfinalized}
 use Rattle.rules.specs.Map
 use Rattle.rules.specs.Map.{Capacity, Round, round}
-use Rattle.rules.specs.Accounted.{code-first, code-past, CodeWord, next-entry, AllCounted, AllWords, Accounted}
+use Rattle.rules.specs.Accounted.{code-first, next-entry, AllWords, Accounted}
 use Rattle.rules.proofs.Sizes
-use Rattle.rules.proofs.Keeps.{All, all-put}
-use Rattle.rules.proofs.Tidy.{rising-put}
-use Rattle.rules.proofs.Starts.{Among, among-self, has-among, among-first}
-use Rattle.rules.proofs.Settled.{upper-holds}
 use Rattle.rules.proofs.RoundsEnd.{Moved, stays, moves, finalize-functions-passed}
 use Rattle.rules.proofs.Rounds.{rounds-end, walked-of, words-of, new-entries}
-use Rattle.rules.proofs.Placed.{Checked, SymbolFits, Placed, State, fresh, bare, filled, Table, New, LateRound, upper-at, finalize-functions-map, process-step-map, process-each-map, process-function-at-map}
+use Rattle.rules.proofs.Placed.{Checked, SymbolFits, Placed, State, fresh, bare, filled, Table, New, LateRound, finalize-functions-map, process-step-map, process-each-map, process-function-at-map}
 use Rattle.rules.proofs.Sums.{accounted}
+use Rattle.rules.proofs.Rows.{All, all-put, upper-holds, Among, among-self, has-among, among-first, upper-at}
+use Rattle.rules.proofs.Ordered.{put-rising}
 
 pub itself : {A : Type 0} (a : Answer A) → Holds (λ x. a ≡ ok x) a
 itself (ok x) = good refl
 itself (fault n) = none
 
 -- ---- the last search
-
-some-none : {A : Type 0} {x : A} {l : List A} → x ∷ l ≡ [] → ⊥
-some-none z = let y : _≡_ {A = ℕ} 0 1 = cc in omega arith
 
 module _ (im : Image.Image) (cap : Capacity) where
   -- each was walked, and the search behind their ends found nothing
@@ -131,7 +124,7 @@ module _ (im : Image.Image) (cap : Capacity) where
       among : Among entryOf k es
 
     put-first : (a : Entry) (es : List Entry) → Early a → First es → First (put entryOf a es)
-    put-first a es p f = record { rising = rising-put entryOf a es (f .rising); each = all-put entryOf Early a es p (f .each) }
+    put-first a es p f = record { rising = put-rising entryOf a es (f .rising); each = all-put entryOf Early a es p (f .each) }
 
     add-entry-first : (k : ℕ) (es : List Entry) → New im k → First es → Holds (FirstWith k) (Map.add-entry cap k es)
     unfolding Map.add-entry

@@ -1,4 +1,6 @@
 pub mod Ordered
+pub mod Rows
+pub mod Tests
 pub mod Cases
 pub mod Sizes
 pub mod WalkEnds

@@ -1,15 +1,14 @@
 -- Where no nonzero word is illegal: no closed block holds a start but its own.
-use Prim.Native.Nat.{ℕ, zero, suc, _+_, _-_, _*_, _/_, _%_, _≤_, _<_}
+use Prim.Native.Nat.{ℕ, zero, _+_, _-_, _%_, _≤_, _<_}
 use mathlib.Core.Path.{_≡_, refl, sym, _∙_, ap, subst}
-use mathlib.Core.Bool.{Bool, true, false, false≢true, not, _&&_, _||_}
+use mathlib.Core.Bool.{Bool, true, false, false≢true, not, _||_}
 use mathlib.Core.List.{List, [], _∷_}
 use mathlib.Core.Logic.{_⊎_, inl, inr}
 use native.Mathlib.Omega.{arith}
-use lib.ListN.{length}
 use lib.Dec.{ltb, leb, eqb}
 use borrow.Author.Tests.{leb-true, leb-false, ltb-true, ltb-false, eqb-true, eqb-false, not-true}
-use Rattle.rules.specs.Choice.{if, by-if, if-true, if-false, Answer, ok, fault, _>>=_}
-use Rattle.rules.specs.Loop.{Holds, good, none, bind-holds, map-holds, if-holds, both, trivial, loop, loop-keeps, run-keeps}
+use Rattle.rules.specs.Choice.{if, by-if, if-true, if-false}
+use Rattle.rules.specs.Loop.{Holds, good, none, bind-holds, map-holds, if-holds, both, loop-keeps, run-keeps}
 use Rattle.rules.specs.Ordered.{put, has, lower, last, empty, Rising, Above}
 use Rattle.rules.specs.Address.{key, address-of, section-of}
 use Rattle.rules.specs.Image
@@ -19,46 +18,29 @@ use Rattle.rules.specs.Blocks.{Block, block, startOf, mark, cut, reaches
 use Rattle.rules.specs.Slices as Lists
 use Rattle.rules.specs.Slices.{Slices}
 use Rattle.rules.specs.Step
-use Rattle.rules.specs.Step.{Around, Walk, Place, idle, at, nowhere, with-slices, with-pending, with-place}
+use Rattle.rules.specs.Step.{Around, Walk, Place, idle, at, nowhere, with-slices, with-place}
 use Rattle.rules.specs.Walk as Exec
 use Rattle.rules.specs.Analyze
-use Rattle.rules.specs.Accounted.{Member, Apart, NoIllegal, CodeWord}
+use Rattle.rules.specs.Accounted.{Member, Apart, NoIllegal}
 use Rattle.rules.proofs.Sizes
-use Rattle.rules.proofs.WalkEnds.{Sound, and-left, and-right, run-walk-step, run-walk-ends}
+use Rattle.rules.proofs.WalkEnds.{Sound, run-walk-step, run-walk-ends}
 use Rattle.rules.proofs.Keeps
 use Rattle.rules.specs.Ordered
-use Rattle.rules.proofs.Keeps.{Laws, In, Given, All, all-put, Other, run-walk-keeps}
+use Rattle.rules.proofs.Keeps.{Laws, In, Given, Other, run-walk-keeps}
 use Rattle.rules.proofs.Tidy
-use Rattle.rules.proofs.Tidy.{bottom, top, Proper, open-one, closed, TidyBlocks, mark-tidy, lower-holds, last-holds, Aligned, Names, Framed, Word, Tidy, tidy-laws, restarts-tidy}
-use Rattle.rules.proofs.Starts.{Among, among-put, among-mark, mark-among, among-last}
+use Rattle.rules.proofs.Tidy.{Proper, open-one, closed, TidyBlocks, mark-tidy, Aligned, Names, Framed, Word, Tidy, tidy-laws, restarts-tidy}
+use Rattle.rules.proofs.Starts.{among-mark, mark-among}
+use Rattle.rules.proofs.Rows.{all-without, All, all-map, all-zip, all-of, all-swap, all-put, lower-holds, last-holds, Among, among-put, among-last, all-above}
+use Rattle.rules.proofs.Tests.{and-left, and-right, or-right}
+use Rattle.rules.proofs.Tidy.{apart-holds}
 
 -- ---- lists
-
-pub all-map : {A : Type 0} {P Q : A → Type 0} (l : List A) → ((x : A) → P x → Q x) → All P l → All Q l
-all-map [] f p = tt
-all-map (x ∷ l) f p = (f x (p .0), all-map l f (p .1))
-
-pub all-zip : {A : Type 0} {P Q R : A → Type 0} (l : List A) → ((x : A) → P x → Q x → R x) → All P l → All Q l → All R l
-all-zip [] f p q = tt
-all-zip (x ∷ l) f p q = (f x (p .0) (q .0), all-zip l f (p .1) (q .1))
-
-all-of : {A : Type 0} {P : A → Type 0} (l : List A) → ((x : A) → P x) → All P l
-all-of [] f = tt
-all-of (x ∷ l) f = (f x, all-of l f)
-
-all-swap : {A B : Type 0} (R : A → B → Type 0) (l : List A) (m : List B) → All (λ x. All (R x) m) l → All (λ y. All (λ x. R x y) l) m
-all-swap R [] m p = all-of m (λ y. tt)
-all-swap R (x ∷ l) m p = all-zip m (λ y a b. (a, b)) (p .0) (all-swap R l m (p .1))
 
 module _ {A : Type 0} (key : A → ℕ) where
   pick : {C : Type 0} (P : A → Type 0) (k : ℕ) (l : List A) → All P l → Among key k l → ((x : A) → key x ≡ k → P x → C) → C
   pick P k [] p h f = absurd h
   pick P k (x ∷ l) p (inl e) f = f x e (p .0)
   pick P k (x ∷ l) p (inr m) f = pick P k l (p .1) m f
-
-  all-above : (k : ℕ) (l : List A) → Above key k l → Rising key l → All (λ y. k < key y) l
-  all-above k [] a r = tt
-  all-above k (y ∷ l) a r = (a, all-map l (λ z (h : key y < key z). omega arith) (all-above (key y) l (r .0) (r .1)))
 
   -- only the other rows stay
   all-put-other : (P : A → Type 0) (a : A) (l : List A) → Rising key l → P a → All (λ x. (key x ≡ key a → ⊥) → P x) l → All P (put key a l)
@@ -72,7 +54,7 @@ module _ {A : Type 0} (key : A → ℕ) where
       (λ e. (p, (q .0 (eqb-false _ _ e), rest y))))
     where
       rest : key a ≤ key x → All P l
-      rest y = all-zip l (λ z (h : key x < key z) (f : (key z ≡ key a → ⊥) → P z). f (λ e. omega arith)) (all-above (key x) l (r .0) (r .1)) (q .1)
+      rest y = all-zip l (λ z (h : key x < key z) (f : (key z ≡ key a → ⊥) → P z). f (λ e. omega arith)) (all-above key (key x) l (r .0) (r .1)) (q .1)
 
   has-none : (k : ℕ) (l : List A) → Rising key l → has key k l ≡ false → All (λ x. key x ≡ k → ⊥) l
   unfolding if
@@ -83,7 +65,7 @@ module _ {A : Type 0} (key : A → ℕ) where
       by true e f q = let y = ltb-true (key x) k e in ((λ z. omega arith), f q)
       by false e f q =
           let y = ltb-false (key x) k e in
-          (eqb-false _ _ q, all-map l (λ z (g : key x < key z) (w : key z ≡ k). omega arith) (all-above (key x) l (r .0) (r .1)))
+          (eqb-false _ _ q, all-map l (λ z (g : key x < key z) (w : key z ≡ k). omega arith) (all-above key (key x) l (r .0) (r .1)))
 
 -- ---- blocks
 
@@ -251,12 +233,6 @@ module _ (im : Image.Image) where
   end-clear : (bs : List Block) (x : Block) → EndClear bs x → (x .end ≡ 0 → ⊥) → Clear (x .end) bs
   end-clear bs x (is-open z) n = absurd (n z)
   end-clear bs x (is-clear a q) n = q
-
-  apart-holds : (P : Block → Type 0) (bs : List Block) → P (block 0 0) → All P bs → P (Blocks.first-disconnected-block bs)
-  apart-holds P [] d p = d
-  apart-holds P (a ∷ []) d p = d
-  apart-holds P (a ∷ b ∷ bs) d p =
-      by-if P (Blocks.apart a b) {x = a} {y = Blocks.first-disconnected-block (b ∷ bs)} (λ _. p .0) (λ _. apart-holds P (b ∷ bs) d (p .1))
 
   pub gap-clear : (bs : List Block) → TidyBlocks im bs → Linked bs → (Blocks.first-disconnected-block bs .end ≡ 0 → ⊥) → Clear (Blocks.first-disconnected-block bs .end) bs
   gap-clear bs t l n =
@@ -519,7 +495,7 @@ module _ (e : Around) (sound : Sound (e .image)) (given : Given (e .image)) (fra
 
   discard-other : (k : ℕ) (s : Slices) → Other Aligned s (Lists.discard-possible k s)
   unfolding Lists.discard-possible
-  discard-other k s = record { same = refl; few = λ h. omega (arith, Keeps.without-few k (s .possible)); refers = λ h. h; maybe = λ h. Keeps.all-without Ordered.self Aligned k (s .possible) h }
+  discard-other k s = record { same = refl; few = λ h. omega (arith, Keeps.without-few k (s .possible)); refers = λ h. h; maybe = λ h. all-without Ordered.self Aligned k (s .possible) h }
 
   connect-halted : (w : Walk) → Halted w → Holds Halted (Analyze.connect e w)
   unfolding Analyze.connect Analyze.connect-step Analyze.pass-behind Analyze.is-disconnected

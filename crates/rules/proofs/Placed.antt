@@ -1,39 +1,39 @@
 -- What each entry keeps through the whole run: where it lies, and whose lists it has.
-use Prim.Native.Nat.{ℕ, zero, suc, _+_, _-_, _*_, _/_, _%_, _≤_, _<_, min}
-use mathlib.Core.Path.{_≡_, refl, sym, _∙_, ap, subst}
-use mathlib.Core.Bool.{Bool, true, false, false≢true, not, _&&_, _||_}
-use mathlib.Core.List.{List, [], _∷_, _++_, map}
+use Prim.Native.Nat.{ℕ, _+_, _-_, _%_, _≤_}
+use mathlib.Core.Path.{_≡_, refl, sym, _∙_, subst}
+use mathlib.Core.Bool.{Bool, true, false, false≢true}
+use mathlib.Core.List.{List, [], _∷_, map}
 use mathlib.Core.Logic.{_⊎_, inl, inr}
 use mathlib.Core.Option.{Option, none as nothing, some}
 use native.Mathlib.Omega.{arith}
-use lib.ListN.{length}
-use lib.Dec.{ltb, leb, eqb}
-use borrow.Author.Tests.{leb-true, leb-false, ltb-true, ltb-false, eqb-true, eqb-false, not-true, le-ltb, lt-ltb, eq-eqb}
-use Rattle.rules.specs.Choice.{if, by-if, if-true, if-false, any, filter, Answer, ok, fault, _>>=_}
-use Rattle.rules.specs.Loop.{Holds, good, none, bind-holds, map-holds, if-holds, both, trivial, loop, loop-keeps, run-keeps}
-use Rattle.rules.specs.Ordered.{put, has, upper, first, empty, Rising, Above}
+use lib.Dec.{ltb, leb}
+use borrow.Author.Tests.{leb-true, ltb-true, eqb-true, eqb-false, le-ltb, lt-ltb}
+use Rattle.rules.specs.Choice.{if, by-if, any, filter, Answer}
+use Rattle.rules.specs.Loop.{Holds, good, none, bind-holds, map-holds, if-holds, both, run-keeps}
+use Rattle.rules.specs.Ordered.{put, has, upper, first, Rising}
 use Rattle.rules.specs.Address.{key, address-of, section-of}
 use Rattle.rules.specs.Image
 use Rattle.rules.specs.Image.{Symbol, Range}
-use Rattle.rules.specs.Blocks.{Block, block, startOf, is-open, first-start, last-end}
+use Rattle.rules.specs.Blocks.{is-open, first-start, last-end}
 use Rattle.rules.specs.Slices as Lists
 use Rattle.rules.specs.Slices.{Slices}
 use Rattle.rules.specs.Known.{Entry, entryOf, new-entry, end-of-entry, is-unfinalized}
 use Rattle.rules.specs.Step.{Around}
 use Rattle.rules.specs.Analyze
-use Rattle.rules.specs.Finalize
-use Rattle.rules.specs.Settle
-use Rattle.rules.specs.Settle.{Settling, settling}
+use Rattle.rules.specs.Settle.{settling}
 use Rattle.rules.specs.Map
 use Rattle.rules.specs.Map.{Capacity, Round, round}
-use Rattle.rules.specs.Accounted.{code-first, code-past, CodeWord}
+use Rattle.rules.specs.Accounted.{code-first, CodeWord}
 use Rattle.rules.proofs.Sizes
-use Rattle.rules.proofs.WalkEnds.{Sound, and-left, and-right}
-use Rattle.rules.proofs.Keeps.{Given, All, all-put}
-use Rattle.rules.proofs.Tidy.{bottom, top, TidyBlocks, rising-put, last-end-low, Aligned, Names, Framed}
-use Rattle.rules.proofs.Starts.{Among, among-put, among-self, has-among, Lies, analyze-lies, analyze-closed, AllClosed}
-use Rattle.rules.proofs.Settled.{Owned, end-even, front, Final, finalize-final, analyze-owned, settle-all-owned, all-filter, upper-holds}
+use Rattle.rules.proofs.WalkEnds.{Sound}
+use Rattle.rules.proofs.Keeps.{Given}
+use Rattle.rules.proofs.Tidy.{bottom, last-end-low, Aligned, Framed}
+use Rattle.rules.proofs.Starts.{analyze-lies, analyze-closed}
+use Rattle.rules.proofs.Settled.{Owned, end-even, front, finalize-final, analyze-owned, settle-all-owned}
 use Rattle.rules.proofs.RoundsEnd.{finalize-ends, Ends}
+use Rattle.rules.proofs.Rows.{All, all-map, all-append, all-put, upper-holds, Among, among-put, among-self, has-among, among-above, upper-at, among-has}
+use Rattle.rules.proofs.Tests.{and-left, and-right}
+use Rattle.rules.proofs.Ordered.{put-rising}
 
 -- what checks 1 to 3 give, as far as demand 3 asks for it
 pub record SymbolFits (f : Symbol) : Type 0 where
@@ -53,32 +53,6 @@ pub record Checked (im : Image.Image) : Type 0 where
 pub moreover : {A : Type 0} {C : Type 0} {P : A → Type 0} {a : Answer A} → Holds (λ (x : A). C) a → (C → Holds P a) → Holds P a
 moreover (good c) f = f c
 moreover none f = none
-
-all-map : {A : Type 0} {P Q : A → Type 0} (l : List A) → ((x : A) → P x → Q x) → All P l → All Q l
-all-map [] f p = tt
-all-map (x ∷ l) f p = (f x (p .0), all-map l f (p .1))
-
-pub all-append : {A : Type 0} (P : A → Type 0) (l m : List A) → All P l → All P m → All P (l ++ m)
-all-append P [] m p q = q
-all-append P (x ∷ l) m p q = (p .0, all-append P l m (p .1) q)
-
--- ---- a row by its key, in a table that rises
-
-module _ {A : Type 0} (key : A → ℕ) where
-  pub among-above : (k : ℕ) (x : A) (l : List A) → Above key (key x) l → Rising key l → Among key k l → key x < k
-  among-above k x [] a r h = absurd h
-  among-above k x (y ∷ l) a r (inl e) = omega arith
-  among-above k x (y ∷ l) a r (inr m) = let q : key y < k = among-above k y l (r .0) (r .1) m in omega arith
-
-  pub upper-at : (k : ℕ) (d : A) (l : List A) → Rising key l → Among key k l → key (upper key k d l) ≡ k
-  upper-at k d [] r h = absurd h
-  upper-at k d (x ∷ l) r (inl e) = rw (if-false (le-ltb (key x) k (omega arith)) (upper key k d l) x) e
-  upper-at k d (x ∷ l) r (inr m) = rw (if-true (lt-ltb (key x) k (among-above k x l (r .0) (r .1) m)) (upper key k d l) x) (upper-at k d l (r .1) m)
-
-  pub among-has : (k : ℕ) (l : List A) → Rising key l → Among key k l → has key k l ≡ true
-  among-has k [] r h = absurd h
-  among-has k (x ∷ l) r (inl e) = rw (if-false (le-ltb (key x) k (omega arith)) (has key k l) (eqb (key x) k)) (eq-eqb _ _ e)
-  among-has k (x ∷ l) r (inr m) = rw (if-true (lt-ltb (key x) k (among-above k x l (r .0) (r .1) m)) (has key k l) (eqb (key x) k)) (among-has k l (r .1) m)
 
 module _ (im : Image.Image) where
   abbrev high : ℕ
@@ -122,7 +96,7 @@ module _ (im : Image.Image) where
     module _ (asked : Bool) where
       pub put-map : (a : Entry) (es : List Entry) → Placed asked a → Table asked based es → Table asked based (put entryOf a es)
       put-map a es p m =
-          record { rising = rising-put entryOf a es (m .rising); each = all-put entryOf (Placed asked) a es p (m .each); base = λ h. among-put entryOf (code-first im) a es (m .base h) }
+          record { rising = put-rising entryOf a es (m .rising); each = all-put entryOf (Placed asked) a es p (m .each); base = λ h. among-put entryOf (code-first im) a es (m .base h) }
 
       -- with an entry at k
       pub record With (k : ℕ) (es fs : List Entry) : Type 0 where

@@ -1,52 +1,27 @@
 -- The rounds end: each walks an entry, or finalizes one, or adds one. No new entry is one that exists, so the Rust's error for that cannot arise.
-use Prim.Native.Nat.{ℕ, zero, suc, _+_, _*_, _≤_, _<_}
+use Prim.Native.Nat.{ℕ, suc, _+_, _*_, _≤_, _<_}
 use mathlib.Core.Path.{_≡_, refl, sym, _∙_, ap, subst}
 use mathlib.Core.Bool.{Bool, true, false, false≢true, not}
 use mathlib.Core.List.{List, [], _∷_}
 use mathlib.Core.Logic.{_⊎_, inl, inr}
 use native.Mathlib.Omega.{arith}
 use lib.ListN.{length}
-use lib.Dec.{ltb, leb, eqb}
 use borrow.Author.Tests.{eqb-true, eqb-false}
-use Rattle.rules.specs.Choice.{if, by-if, if-true, if-false, Answer, ok, fault, _>>=_}
-use Rattle.rules.specs.Loop.{Holds, good, none, bind-holds, map-holds, if-holds, both, trivial, loop, loop-step, loop-ends, loop-keeps}
-use Rattle.rules.specs.Ordered.{self, put, has, empty, Rising, Above}
+use Rattle.rules.specs.Choice.{if, by-if, if-true, Answer, _>>=_}
+use Rattle.rules.specs.Loop.{Holds, good, bind-holds, map-holds, if-holds, both, loop, loop-step, loop-ends, loop-keeps}
+use Rattle.rules.specs.Ordered.{self, put, has, empty, Rising}
 use Rattle.rules.specs.Image
 use Rattle.rules.specs.Known.{Entry, entryOf, new-entry}
 use Rattle.rules.specs.Map
 use Rattle.rules.specs.Map.{Capacity, Round, round, to-do}
-use Rattle.rules.specs.Accounted.{AllWords, next-entry}
+use Rattle.rules.specs.Accounted.{AllWords}
 use Rattle.rules.proofs.Sizes
-use Rattle.rules.proofs.Keeps.{All}
-use Rattle.rules.proofs.Starts.{Among, has-among}
-use Rattle.rules.proofs.Linked.{all-map, all-zip}
-use Rattle.rules.proofs.Placed.{Checked, Placed, Table, LateRound, finalize-functions-map, process-step-map}
+use Rattle.rules.proofs.Placed.{Checked, Placed, Table, finalize-functions-map, process-step-map}
 use Rattle.rules.proofs.Searched.{Search, IsWalked, search}
-use Rattle.rules.proofs.RoundsEnd.{Added, Stored, Waits, Moved, stays, moves, Passed, Rounded, passed-rounded, add-entries-added, finalize-functions-passed, process-function-at-stored, first-waits}
+use Rattle.rules.proofs.RoundsEnd.{Added, Stored, Waits, Moved, stays, moves, Rounded, passed-rounded, add-entries-added, finalize-functions-passed, process-function-at-stored, first-waits}
+use Rattle.rules.proofs.Rows.{All, all-map, all-zip, Among, has-among, among-put-cases, all-above}
 
 -- ---- new entries
-
-among-put-cases : {A : Type 0} (key : A → ℕ) (k : ℕ) (a : A) (l : List A) → Among key k (put key a l) → (key a ≡ k) ⊎ Among key k l
-unfolding if
-among-put-cases key k a [] (inl e) = inl e
-among-put-cases key k a [] (inr m) = absurd m
-among-put-cases key k a (x ∷ l) h = by (ltb (key x) (key a)) (eqb (key x) (key a)) (among-put-cases key k a l) h
-  where
-    by : (t u : Bool) → (Among key k (put key a l) → (key a ≡ k) ⊎ Among key k l) → Among key k (if t (x ∷ put key a l) (if u (a ∷ l) (a ∷ x ∷ l))) → (key a ≡ k) ⊎ Among key k (x ∷ l)
-    by true u f (inl e) = inr (inl e)
-    by true u f (inr m) = later (f m)
-      where
-        later : (key a ≡ k) ⊎ Among key k l → (key a ≡ k) ⊎ Among key k (x ∷ l)
-        later (inl e) = inl e
-        later (inr m) = inr (inr m)
-    by false true f (inl e) = inl e
-    by false true f (inr m) = inr (inr m)
-    by false false f (inl e) = inl e
-    by false false f (inr m) = inr m
-
-above-all : (k : ℕ) (ks : List ℕ) → Above self k ks → Rising self ks → All (λ j. k < j) ks
-above-all k [] a r = tt
-above-all k (j ∷ ks) a r = (a, all-map ks (λ i (h : j < i). let z : k < i = omega arith in z) (above-all j ks (r .0) (r .1)))
 
 module _ (im : Image.Image) (cap : Capacity) where
   -- each of the new entries is added
@@ -59,7 +34,7 @@ module _ (im : Image.Image) (cap : Capacity) where
       (λ gs e. let l : length fs ≡ suc (length es) = ap length q ∙ Sizes.put-new entryOf (new-entry k) es (absent (has entryOf k es) refl) in omega arith))
     where
       rest : All (λ j. Among entryOf j (put entryOf (new-entry k) es) → ⊥) ks
-      rest = all-zip ks (λ j (a : k < j) (f : Among entryOf j es → ⊥). λ m. other j a f (among-put-cases entryOf j (new-entry k) es m)) (above-all k ks (r .0) (r .1)) (n .1)
+      rest = all-zip ks (λ j (a : k < j) (f : Among entryOf j es → ⊥). λ m. other j a f (among-put-cases entryOf j (new-entry k) es m)) (all-above self k ks (r .0) (r .1)) (n .1)
         where
           other : (j : ℕ) → k < j → (Among entryOf j es → ⊥) → (k ≡ j) ⊎ Among entryOf j es → ⊥
           other j a f (inl e) = omega arith

@@ -1,29 +1,30 @@
 -- The rounds end: each walks an entry, or finalizes one, or adds one.
-use Prim.Native.Nat.{ℕ, zero, suc, _+_, _-_, _*_, _≤_, _<_, min}
+use Prim.Native.Nat.{ℕ, suc, _+_, _*_, _≤_, _<_, min}
 use mathlib.Core.Path.{_≡_, refl, sym, _∙_, ap, subst}
-use mathlib.Core.Bool.{Bool, true, false, false≢true, not, _&&_, _||_}
+use mathlib.Core.Bool.{Bool, true, false, false≢true, _&&_}
 use mathlib.Core.List.{List, [], _∷_}
 use mathlib.Core.Logic.{_⊎_, inl, inr}
 use mathlib.Core.Option.{Option, none as nothing, some}
 use native.Mathlib.Omega.{arith}
 use lib.ListN.{length}
-use lib.Dec.{ltb, leb, eqb}
-use borrow.Author.Tests.{leb-true, leb-false, ltb-true, ltb-false, eqb-true, eqb-false, lt-ltb, le-ltb, eq-eqb, ne-eqb}
-use Rattle.rules.specs.Choice.{if, by-if, if-true, if-false, any, filter, Answer, ok, fault, _>>=_}
-use Rattle.rules.specs.Loop.{Holds, good, none, bind-holds, map-holds, if-holds, both, trivial, loop, loop-step, loop-ends, loop-keeps, cases}
-use Rattle.rules.specs.Ordered.{put, has, upper, last, empty, Rising, Above}
+use lib.Dec.{ltb, eqb}
+use borrow.Author.Tests.{ltb-false, eqb-true, eqb-false, lt-ltb, le-ltb, eq-eqb, ne-eqb}
+use Rattle.rules.specs.Choice.{if, by-if, if-true, if-false, filter}
+use Rattle.rules.specs.Loop.{Holds, good, none, bind-holds, map-holds, if-holds, trivial}
+use Rattle.rules.specs.Ordered.{put, has, upper, last, Rising, Above}
 use Rattle.rules.specs.Blocks.{Block, block, startOf, last-end}
 use Rattle.rules.specs.Slices as Lists
 use Rattle.rules.specs.Slices.{Slices}
 use Rattle.rules.specs.Finalize
-use Rattle.rules.specs.Known.{Entry, entryOf, new-entry, is-unfinalized, is-some}
+use Rattle.rules.specs.Known.{Entry, entryOf, new-entry, is-unfinalized}
 use Rattle.rules.specs.Image
 use Rattle.rules.specs.Map
 use Rattle.rules.specs.Map.{Capacity, Round, round, weight, weights, to-do}
 use Rattle.rules.proofs.Sizes
-use Rattle.rules.proofs.WalkEnds.{and-left, and-right}
-use Rattle.rules.proofs.Tidy.{rising-put}
-use Rattle.rules.proofs.Keeps.{All, set-block-puts}
+use Rattle.rules.proofs.Keeps.{set-block-puts}
+use Rattle.rules.proofs.Rows.{All, above-more}
+use Rattle.rules.proofs.Tests.{and-left, and-right}
+use Rattle.rules.proofs.Ordered.{put-rising}
 
 -- an entry at k, with at least n still to be done
 abbrev pub Waits : ℕ → ℕ → List Entry → Type 0
@@ -125,7 +126,7 @@ module _ (cap : Capacity) where
             let m = ap weights (i .0) in
             omega (arith, i .1, put-weights-most (new-entry k) es, new-weight k);
         more = let l = Sizes.put-new entryOf (new-entry k) es h in let j = ap length (i .0) in omega arith;
-        rising = rw (i .0) (rising-put entryOf (new-entry k) es r);
+        rising = rw (i .0) (put-rising entryOf (new-entry k) es r);
         waits = λ n j w. rw (i .0) (put-waits n j (new-entry k) es (λ q. absurd (false≢true (sym h ∙ (ap (λ x. has entryOf x es) q ∙ waits-has n j es w)))) w);
       }))
 
@@ -135,7 +136,7 @@ module _ (cap : Capacity) where
       let v : Waits n (a .entry) es = subst (λ j. Waits n j es) (sym q) w in
       record {
         done = omega (arith, put-weights n a es v, put-length n a es v);
-        rising = rising-put entryOf a es r;
+        rising = put-rising entryOf a es r;
         waits = λ m j d x. put-waits m j a es (λ p. d (sym p ∙ q)) x;
       }
 
@@ -285,11 +286,7 @@ module _ (im : Image.Image) (cap : Capacity) where
   rest-waits : (k : ℕ) (xs : List Entry) (r t : Round) → Above entryOf k xs → Rising entryOf xs → Handled k r t → All (Waiting r) xs → All (Waiting t) xs
   rest-waits k [] r t a s h w = tt
   rest-waits k (x ∷ xs) r t a s h w =
-      (h .waits 1 (x .entry) (λ q. omega arith) (w .0), rest-waits k xs r t (above-trans xs (s .0)) (s .1) h (w .1))
-    where
-      above-trans : (l : List Entry) → Above entryOf (x .entry) l → Above entryOf k l
-      above-trans [] p = tt
-      above-trans (y ∷ l) p = omega arith
+      (h .waits 1 (x .entry) (λ q. omega arith) (w .0), rest-waits k xs r t (above-more entryOf k (x .entry) xs a (s .0)) (s .1) h (w .1))
 
   finalize-each-passed : (final : Bool) (xs : List Entry) (r : Round) → Rising entryOf xs → Rising entryOf (r .entries) → All (Waiting r) xs → Holds (Passed r) (Map.finalize-each im cap final xs r)
   finalize-each-passed final [] r s h w = good (record { moved = stays refl; rising = h })
@@ -309,11 +306,7 @@ module _ (im : Image.Image) (cap : Capacity) where
   above-filter k [] a r = tt
   above-filter k (x ∷ es) a r =
       by-if (Above entryOf k) (is-unfinalized x) {x = x ∷ filter is-unfinalized es} {y = filter is-unfinalized es} (λ _. a)
-      (λ _. above-filter k es (further es (r .0)) (r .1))
-    where
-      further : (l : List Entry) → Above entryOf (x .entry) l → Above entryOf k l
-      further [] p = tt
-      further (y ∷ l) p = omega arith
+      (λ _. above-filter k es (above-more entryOf k (x .entry) es a (r .0)) (r .1))
 
   filter-rising : (es : List Entry) → Rising entryOf es → Rising entryOf (filter is-unfinalized es)
   filter-rising [] r = tt

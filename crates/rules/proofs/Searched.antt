@@ -1,51 +1,32 @@
 -- What the last search for new entries saw: the gaps.
-use Prim.Native.Nat.{ℕ, zero, suc, _+_, _-_, _*_, _/_, _%_, _≤_, _<_, min}
+use Prim.Native.Nat.{ℕ, _+_, _-_, _%_, _≤_, _<_}
 use mathlib.Core.Path.{_≡_, refl, sym, _∙_, ap, subst}
 use mathlib.Core.Bool.{Bool, true, false, false≢true, not, _&&_, _||_}
-use mathlib.Core.List.{List, [], _∷_, _++_, map}
-use mathlib.Core.Logic.{_⊎_, inl, inr}
-use mathlib.Core.Option.{Option, none as nothing, some}
+use mathlib.Core.List.{List, [], _∷_, _++_}
+use mathlib.Core.Logic.{inl, inr}
+use mathlib.Core.Option.{some}
 use native.Mathlib.Omega.{arith}
-use lib.ListN.{length}
 use lib.Dec.{ltb, leb, eqb}
-use borrow.Author.Tests.{leb-true, leb-false, ltb-true, ltb-false, eqb-true, eqb-false, not-true, not-false, le-leb, le-ltb, lt-ltb, eq-eqb, ne-eqb}
-use Rattle.rules.specs.Choice.{if, by-if, if-true, if-false, any, filter, Answer, ok, fault, _>>=_}
-use Rattle.rules.specs.Loop.{Holds, good, none, of-good, holds-at, bind-holds, map-holds, if-holds, both, trivial, loop, loop-keeps, run, run-keeps}
-use Rattle.rules.specs.Ordered.{self, put, has, upper, first, empty, Rising, Above}
-use Rattle.rules.specs.Address.{key, address-of, section-of}
+use borrow.Author.Tests.{leb-true, leb-false, ltb-true, ltb-false, eqb-true, eqb-false, not-false, le-leb, lt-ltb, eq-eqb, ne-eqb}
+use Rattle.rules.specs.Choice.{if, by-if, if-true, any}
+use Rattle.rules.specs.Loop.{Holds, good, none, bind-holds, if-holds, both, run, run-keeps}
+use Rattle.rules.specs.Ordered.{self, has, first, Rising, Above}
+use Rattle.rules.specs.Address.{key, address-of}
 use Rattle.rules.specs.Image
-use Rattle.rules.specs.Image.{Symbol, Range}
+use Rattle.rules.specs.Image.{Range}
 use Rattle.rules.specs.Blocks.{last-end}
 use Rattle.rules.specs.Slices.{Slices}
 use Rattle.rules.specs.Known.{Entry, entryOf, new-entry, is-unfinalized, is-function, is-some}
 use Rattle.rules.specs.Map
-use Rattle.rules.specs.Map.{Capacity, Round, round}
-use Rattle.rules.specs.Accounted.{code-first, code-past, CodeWord, next-entry, is-gap-word, Function, SetAside, Counted, function, aside, AllCounted, AllWords, Accounted}
-use Rattle.rules.proofs.Sizes
-use Rattle.rules.proofs.WalkEnds.{Sound, and-left, and-right}
-use Rattle.rules.proofs.Keeps.{Given, All}
-use Rattle.rules.proofs.Tidy.{bottom, top, last-end-low}
-use Rattle.rules.proofs.Starts.{Among, has-among}
+use Rattle.rules.specs.Map.{Capacity}
+use Rattle.rules.specs.Accounted.{code-first, code-past, next-entry, is-gap-word, Function, Counted, function, aside, AllCounted, AllWords}
+use Rattle.rules.proofs.Tidy.{last-end-low}
 use Rattle.rules.proofs.Linked.{linked-apart}
-use Rattle.rules.proofs.Settled.{Owned, owned-end, end-even}
-use Rattle.rules.proofs.Placed.{Checked, Placed, State, fresh, bare, filled, skip-range-even, among-above, all-append}
-use Rattle.rules.proofs.Linked.{all-map}
-
-or-left : (a b : Bool) → a ≡ true → (a || b) ≡ true
-or-left true b h = refl
-or-left false b h = absurd (false≢true h)
-
-or-right : (a b : Bool) → b ≡ true → (a || b) ≡ true
-or-right true b h = refl
-or-right false b h = h
-
-and-false : {C : Type 0} (a b : Bool) → (a && b) ≡ false → (a ≡ false → C) → (b ≡ false → C) → C
-and-false true b h f g = g h
-and-false false b h f g = f refl
-
-and-both : (a b : Bool) → a ≡ true → b ≡ true → (a && b) ≡ true
-and-both true b h l = l
-and-both false b h l = absurd (false≢true h)
+use Rattle.rules.proofs.Settled.{Owned, owned-end}
+use Rattle.rules.proofs.Placed.{Checked, Placed, State, fresh, bare, filled, skip-range-even}
+use Rattle.rules.proofs.Rows.{All, all-map, all-append, Among, among-above, above-all}
+use Rattle.rules.proofs.Tests.{and-left, and-right, or-left, or-right, and-false, and-both}
+use Rattle.rules.proofs.SkipsEnd.{past-range-on}
 
 no-function : (x : Entry) → x .end ≡ 0 → is-function x ≡ false
 no-function x e = by (x .analyzed) (is-some (x .slices)) (eqb (x .end) 0) (eq-eqb _ _ e)
@@ -131,18 +112,12 @@ module _ (im : Image.Image) (checked : Checked im) (cap : Capacity) where
           absurd (omega arith)
 
   -- the search goes on from where it begins
-  on-range : (a : ℕ) (rs : List Range) → a ≤ Map.past-range im cap a rs
-  on-range a [] = omega arith
-  on-range a (r ∷ rs) =
-      by-if (λ b. a ≤ b) (Image.in-range a r) {x = r .past} {y = Map.past-range im cap a rs}
-      (λ h. omega (arith, ltb-true a (r .past) (and-right (leb (r .first) a) _ h))) (λ _. on-range a rs)
-
   alignment-on : (a end : ℕ) → a ≤ end → a ≤ Map.skip-alignment im cap a end
   unfolding Map.skip-alignment Map.skip-zero Map.skip-range
   alignment-on a end h =
       by-if (λ n. a ≤ n) _
-      (λ _. let p = run-keeps (Map.is-padding im cap end) (Map.skip-zero im cap) (λ x. end - x) (λ n. a ≤ n) (λ x _ q. omega (arith, on-range x (im .skips))) a (omega arith) in
-      omega (arith, on-range (run (Map.is-padding im cap end) (Map.skip-zero im cap) (λ x. end - x) a) (im .skips))) (λ _. h)
+      (λ _. let p = run-keeps (Map.is-padding im cap end) (Map.skip-zero im cap) (λ x. end - x) (λ n. a ≤ n) (λ x _ q. omega (arith, past-range-on im cap x (im .skips))) a (omega arith) in
+      omega (arith, past-range-on im cap (run (Map.is-padding im cap end) (Map.skip-zero im cap) (λ x. end - x) a) (im .skips))) (λ _. h)
 
   -- ---- the entries one by one, as the search saw them
 
@@ -264,10 +239,6 @@ module _ (im : Image.Image) (checked : Checked im) (cap : Capacity) where
         no : Among entryOf k (x ∷ es) → ⊥
         no (inl e) = let z : next-entry im es < k = a .0 in omega arith
         no (inr m) = p .0 m
-
-  above-all : (k : ℕ) (ks : List ℕ) → All (λ j. k < j) ks → Above self k ks
-  above-all k [] a = tt
-  above-all k (j ∷ ks) a = a .0
 
   module _ (x after : ℕ) (next : x < after) where
     joined-rising : (l ks : List ℕ) → Rising self l → All (Within x after) l → All (λ k. after < k) ks → Rising self ks → Rising self (l ++ ks)

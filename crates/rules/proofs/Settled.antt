@@ -1,23 +1,23 @@
 -- What each function's lists keep, from its first walk until it is finalized.
-use Prim.Native.Nat.{ℕ, zero, suc, _+_, _-_, _*_, _/_, _%_, _≤_, _<_}
-use mathlib.Core.Path.{_≡_, refl, sym, _∙_, ap, subst}
+use Prim.Native.Nat.{ℕ, _+_, _%_, _≤_, _<_}
+use mathlib.Core.Path.{_≡_, refl, sym, _∙_}
 use mathlib.Core.Bool.{Bool, true, false, false≢true, not, _&&_, _||_}
 use mathlib.Core.List.{List, [], _∷_}
 use mathlib.Core.Logic.{_⊎_, inl, inr}
 use native.Mathlib.Omega.{arith}
 use lib.ListN.{length, getD}
 use lib.Dec.{ltb, leb, eqb}
-use borrow.Author.Tests.{leb-true, leb-false, ltb-true, ltb-false, eqb-true, eqb-false, not-true}
-use Rattle.rules.specs.Choice.{if, by-if, if-false, any, filter, Answer, ok, fault, _>>=_}
-use Rattle.rules.specs.Loop.{Holds, good, none, of-good, bind-holds, map-holds, if-holds, both, trivial, loop, loop-keeps, cases}
-use Rattle.rules.specs.Ordered.{self, put, has, upper, without, last, first, Rising, Above}
-use Rattle.rules.specs.Address.{key, address-of, section-of}
+use borrow.Author.Tests.{ltb-true, eqb-true, eqb-false}
+use Rattle.rules.specs.Choice.{if, by-if, if-false, any, Answer, ok, fault, _>>=_}
+use Rattle.rules.specs.Loop.{Holds, good, none, of-good, bind-holds, map-holds, if-holds, both, loop-keeps}
+use Rattle.rules.specs.Ordered.{self, put, last, first}
+use Rattle.rules.specs.Address.{address-of}
 use Rattle.rules.specs.Image
 use Rattle.rules.specs.Words.{blr, nop}
 use Rattle.rules.specs.Blocks.{Block, block, startOf, is-open, first-start, last-end}
 use Rattle.rules.specs.Slices as Lists
 use Rattle.rules.specs.Slices.{Slices}
-use Rattle.rules.specs.Known.{Entry, entryOf}
+use Rattle.rules.specs.Known.{Entry}
 use Rattle.rules.specs.Step.{Around}
 use Rattle.rules.specs.Analyze
 use Rattle.rules.specs.TailCall
@@ -25,22 +25,15 @@ use Rattle.rules.specs.TailCall.{is-not, is, possibly}
 use Rattle.rules.specs.Finalize
 use Rattle.rules.specs.Settle
 use Rattle.rules.specs.Settle.{Settling, settling}
-use Rattle.rules.proofs.WalkEnds.{Sound, and-left, and-right}
-use Rattle.rules.proofs.Keeps.{Given, All, all-put, all-without, without-few, Other, add-reference-other, set-block-puts}
+use Rattle.rules.proofs.WalkEnds.{Sound}
+use Rattle.rules.proofs.Keeps.{Given, without-few, Other, add-reference-other, set-block-puts}
 use Rattle.rules.proofs.SettlingEnds.{filter-few, Grew, walked, marked, analyze-grew}
-use Rattle.rules.proofs.Tidy.{bottom, top, Proper, open-one, closed, TidyBlocks, put-tidy, last-end-low, Aligned, Names, Framed, last-holds, analyze-tidy}
+use Rattle.rules.proofs.Tidy.{bottom, Proper, open-one, closed, TidyBlocks, put-tidy, Aligned, Names, Framed, analyze-tidy}
 use Rattle.rules.specs.Accounted.{NoIllegal}
-use Rattle.rules.proofs.Linked.{Linked, LinkedIn, all-map, put-linked, last-most, last-above, analyze-linked}
-use Rattle.rules.proofs.Starts.{Among, among-put, among-last, analyze-starts}
-
-pub all-filter : {A : Type 0} (P : A → Type 0) (p : A → Bool) (l : List A) → All P l → All P (filter p l)
-all-filter P p [] h = tt
-all-filter P p (x ∷ l) h =
-    by-if (All P) (p x) {x = x ∷ filter p l} {y = filter p l} (λ _. (h .0, all-filter P p l (h .1))) (λ _. all-filter P p l (h .1))
-
-pub upper-holds : {A : Type 0} (key : A → ℕ) (P : A → Type 0) (k : ℕ) (d : A) (l : List A) → P d → All P l → P (upper key k d l)
-upper-holds key P k d [] p q = p
-upper-holds key P k d (x ∷ l) p q = by-if P (ltb (key x) k) {x = upper key k d l} {y = x} (λ _. upper-holds key P k d l p (q .1)) (λ _. q .0)
+use Rattle.rules.proofs.Linked.{Linked, LinkedIn, put-linked, last-most, last-above, analyze-linked}
+use Rattle.rules.proofs.Starts.{analyze-starts}
+use Rattle.rules.proofs.Rows.{All, all-map, all-filter, all-without, upper-holds, last-holds, Among, among-put, among-last}
+use Rattle.rules.proofs.Tests.{and-left, and-right}
 
 -- what holds under an assumption
 pub assuming : {A : Type 0} {C : Type 0} {P : A → Type 0} {a : Answer A} → (C → Holds P a) → Holds (λ x. C → P x) a

@@ -1,16 +1,16 @@
 -- The loop over possible blocks ends: each step leaves one behind, or takes one away, or begins a block.
-use Prim.Native.Nat.{ℕ, zero, suc, _+_, _-_, _*_, _≤_, _<_}
-use mathlib.Core.Path.{_≡_, refl, sym, _∙_, ap, subst}
-use mathlib.Core.Bool.{Bool, true, false, false≢true, not, _&&_, _||_}
+use Prim.Native.Nat.{ℕ, suc, _+_, _≤_, _<_}
+use mathlib.Core.Path.{_≡_, refl, _∙_, ap, subst}
+use mathlib.Core.Bool.{Bool, true, false, false≢true, not}
 use mathlib.Core.List.{List, [], _∷_}
 use native.Mathlib.Omega.{arith}
 use lib.ListN.{length}
-use lib.Dec.{ltb, leb, eqb}
-use borrow.Author.Tests.{leb-true, leb-false, ltb-true, ltb-false, eqb-true, eqb-false, lt-ltb, le-ltb, lt-leb, le-leb, eq-eqb, not-true}
-use Rattle.rules.specs.Choice.{if, by-if, if-true, if-false, any, filter, Answer, ok, fault, _>>=_}
-use Rattle.rules.specs.Loop.{Holds, good, none, bind-holds, map-holds, if-holds, both, trivial, loop, loop-step, loop-ends, cases}
-use Rattle.rules.specs.Ordered.{self, put, without, upper}
-use Rattle.rules.specs.Blocks.{Block, block, startOf, mark, is-new}
+use lib.Dec.{ltb, leb}
+use borrow.Author.Tests.{leb-true, leb-false, ltb-true, ltb-false, eqb-false, lt-ltb, le-ltb, lt-leb, le-leb, eq-eqb, not-true}
+use Rattle.rules.specs.Choice.{if, by-if, any, filter, Answer, ok, fault, _>>=_}
+use Rattle.rules.specs.Loop.{Holds, good, none, bind-holds, map-holds, if-holds, trivial, loop-step, loop-ends}
+use Rattle.rules.specs.Ordered.{self, without, upper}
+use Rattle.rules.specs.Blocks.{block, startOf}
 use Rattle.rules.specs.Slices as Lists
 use Rattle.rules.specs.Slices.{Slices}
 use Rattle.rules.specs.Step
@@ -19,7 +19,6 @@ use Rattle.rules.specs.Walk as Exec
 use Rattle.rules.specs.Analyze
 use Rattle.rules.specs.TailCall
 use Rattle.rules.specs.TailCall.{is-not, is, possibly}
-use Rattle.rules.specs.Image
 use Rattle.rules.specs.Settle
 use Rattle.rules.specs.Settle.{Settling, settling}
 use Rattle.rules.proofs.Sizes

@@ -1,6 +1,6 @@
 -- The target of a direct branch: its 24-bit field is a signed count of words, from the branch's own address or, in the absolute form, from 0.
-use Prim.Native.Nat.{ℕ, suc, _-_, _*_, _%_, _^_}
-use mathlib.Core.Bool.{Bool, true, false}
+use Prim.Native.Nat.{ℕ, suc, _-_, _%_, _^_}
+use mathlib.Core.Bool.{Bool}
 use lib.Dec.{ltb, eqb}
 use lib.IntN.{ℤ, pos, negsuc, subℕ, _+ℤ_, _*ℤ_}
 use Rattle.rules.specs.Choice.{if}

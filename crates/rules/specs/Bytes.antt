@@ -1,6 +1,5 @@
 -- Words as they lie in a section's bytes: big-endian, four bytes each.
 use Prim.Native.Nat.{ℕ, _+_, _*_, _-_}
-use mathlib.Core.Bool.{Bool}
 use mathlib.Core.List.{List, [], _∷_}
 use lib.Dec.{leb}
 use lib.ListN.{drop}

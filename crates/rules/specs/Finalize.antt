@@ -1,8 +1,8 @@
 -- FunctionSlices::finalize: a last word that belongs to the function still.
 use Prim.Native.Nat.{ℕ, _+_, _-_}
-use mathlib.Core.Bool.{Bool, true, false, _&&_, _||_, not}
-use mathlib.Core.List.{List, [], _∷_}
-use lib.Dec.{ltb, leb, eqb}
+use mathlib.Core.Bool.{Bool, _&&_, _||_, not}
+use mathlib.Core.List.{List}
+use lib.Dec.{ltb, eqb}
 use lib.ListN.{length}
 use Rattle.rules.specs.Choice.{if, Answer, ok, fault, _>>=_, any}
 use Rattle.rules.specs.Ordered.{self, has}

@@ -1,6 +1,6 @@
 -- The whole map (cfa.rs): entries are walked, finalized and found, round by round.
-use Prim.Native.Nat.{ℕ, zero, suc, _+_, _-_, _*_, min}
-use mathlib.Core.Bool.{Bool, true, false, _&&_, _||_, not}
+use Prim.Native.Nat.{ℕ, _+_, _-_, _*_, min}
+use mathlib.Core.Bool.{Bool, true, false, _&&_, not}
 use mathlib.Core.List.{List, [], _∷_, _++_, map}
 use mathlib.Core.Option.{Option, none, some}
 use lib.Dec.{ltb, leb, eqb}
@@ -15,7 +15,7 @@ use Rattle.rules.specs.Blocks.{first-start, last-end}
 use Rattle.rules.specs.Slices.{Slices, with-only, count-ways}
 use Rattle.rules.specs.Known.{Entry, entryOf, new-entry, end-of-entry, is-unfinalized}
 use Rattle.rules.specs.Step.{Around}
-use Rattle.rules.specs.Analyze.{Analyzed, analyze}
+use Rattle.rules.specs.Analyze.{analyze}
 use Rattle.rules.specs.Settle.{settling, settle-all}
 use Rattle.rules.specs.Finalize.{finalize}
 

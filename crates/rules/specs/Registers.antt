@@ -1,7 +1,7 @@
 -- Which general registers a word names: only those that a field of it gives, as the 32-bit Programming Environments manual has it.
 -- Words with no row name none: branches, floating-point arithmetic, words of 64-bit processors, paired singles.
 use Prim.Native.Nat.{ℕ, _+_}
-use mathlib.Core.Bool.{Bool, true, false}
+use mathlib.Core.Bool.{Bool}
 use mathlib.Core.List.{List, [], _∷_, _++_}
 use lib.Dec.{leb, eqb}
 use Rattle.rules.specs.Choice.{if, any}

@@ -1,6 +1,6 @@
 -- One word of a walk (instruction_callback).
 use Prim.Native.Nat.{ℕ, _+_}
-use mathlib.Core.Bool.{Bool, true, false, _&&_, _||_, not}
+use mathlib.Core.Bool.{Bool, _&&_, _||_, not}
 use mathlib.Core.List.{List, [], _∷_, _++_}
 use lib.Dec.{ltb, leb, eqb}
 use Rattle.rules.specs.Choice.{if, Answer, ok, fault, _>>=_, limited, any}
@@ -11,7 +11,6 @@ use Rattle.rules.specs.Image.{Image, Branch, To, to-address, to-table, e
 use Rattle.rules.specs.Words.{is-lwz, is-rfi, is-conditional-blr, is-function-terminator}
 use Rattle.rules.specs.Sequences.{check-prologue-sequence, check-epilogue-sequence}
 use Rattle.rules.specs.Blocks.{startOf, is-new, last-start, last-end}
-use Rattle.rules.specs.Slices
 use Rattle.rules.specs.Slices.{Slices, set-block, set-ways, add-block-start, add-reference, add-possible, add-all-possible, set-table, discard-possible, with-prologue, with-epilogue, with-r1-load, with-returns}
 use Rattle.rules.specs.Known.{Entry, covering}
 use Rattle.rules.specs.JumpTable.{Entries, jump-table-entries}

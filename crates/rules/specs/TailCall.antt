@@ -1,9 +1,8 @@
 -- FunctionSlices::check_tail_call: whether a possible block is one of the function's or a function of its own.
 use Prim.Native.Nat.{ℕ, _+_, _-_, _/_}
-use mathlib.Core.Bool.{Bool, true, false, _&&_, _||_, not}
-use mathlib.Core.List.{List, [], _∷_}
+use mathlib.Core.Bool.{Bool, _&&_, _||_, not}
 use lib.Dec.{ltb, leb, eqb}
-use Rattle.rules.specs.Choice.{if, Answer, ok, fault, _>>=_, any, filter}
+use Rattle.rules.specs.Choice.{if, Answer, ok, fault, any, filter}
 use Rattle.rules.specs.Ordered.{has}
 use Rattle.rules.specs.Address.{address-of, section-of}
 use Rattle.rules.specs.Image

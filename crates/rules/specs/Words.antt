@@ -1,8 +1,8 @@
 -- Instruction words by the PowerPC manual (Programming Environments, 32-bit): their fields, and what the walk asks of one word.
 -- Bits are numbered as in the manual, from 0 at the left. A word is told by its primary and its extended opcode alone.
 use Prim.Native.Nat.{ℕ, _+_, _*_, _/_, _%_, _^_}
-use mathlib.Core.Bool.{Bool, true, false, _&&_, _||_, not}
-use lib.Dec.{leb, eqb}
+use mathlib.Core.Bool.{Bool, _&&_, _||_, not}
+use lib.Dec.{eqb}
 
 -- n bits, the lowest of them at place p (counted from the right, from 0)
 abbrev pub field : ℕ → ℕ → ℕ → ℕ
