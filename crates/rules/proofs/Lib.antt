@@ -18,3 +18,4 @@ pub mod Searched
 pub mod Linked
 pub mod Rounds
 pub mod Demand3
+pub mod Faults
