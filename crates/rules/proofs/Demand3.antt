@@ -202,16 +202,22 @@ module _ (im : Image.Image) (cap : Capacity) where
         let s = holds-at (new-entries im checked cap es (c .table) (c .searched .walked)) (c .searched .search) in
         accounted im (checked .sound) es (begins es (c .table .rising) w (c .table .base refl)) (c .table .rising) w (s .counted u refl)
 
-    pub detect-accounted : Holds (Accounted im) (Map.detect im cap)
-    unfolding Map.detect Map.detect-functions Map.process-entry-point Map.all-finalized
-    detect-accounted =
+    -- the table from which the rounds start
+    pub walk-given-table : Holds (Table im false true) (Map.walk-given im cap)
+    unfolding Map.walk-given Map.process-entry-point
+    walk-given-table =
         bind-holds first-entries-first
         (λ es p. bind-holds (process-each-map im checked cap true true (map entryOf es) es refl (early-new es (p .first .each)) (record { rising = p .first .rising; each = early-placed es (p .first .each); base = λ _. p .among }))
-        (λ fs q. bind-holds
+        (λ fs q. map-holds
         (if-holds (λ _. good q) (λ h. process-function-at-map im checked cap true true (im .entry) fs (record { even = checked .entry-even; section = checked .entry-code (eqb-false _ _ h) }) (inl refl) q))
-        (λ gs r. bind-holds (process-functions-closed gs (record { rising = r .rising; each = late-placed gs (r .each); base = r .base }))
-        (λ hs c. bind-holds (last-rounds-closed hs c)
-        (λ is d. if-holds (λ _. none) (λ u. good (closed-accounted is d u)))))))
+        (λ gs r. record { rising = r .rising; each = late-placed gs (r .each); base = r .base })))
+
+    pub detect-accounted : Holds (Accounted im) (Map.detect im cap)
+    unfolding Map.detect Map.detect-functions Map.all-finalized
+    detect-accounted =
+        bind-holds walk-given-table
+        (λ es t. bind-holds (process-functions-closed es t)
+        (λ fs c. bind-holds (last-rounds-closed fs c) (λ gs d. if-holds (λ _. none) (λ u. good (closed-accounted gs d u)))))
 
 -- Demand 3, for every image that checks 1 to 3 let through and every capacity
 pub demand-3 : (im : Image.Image) (cap : Capacity) (es : List Entry) → Checked im → Map.detect im cap ≡ ok es → Accounted im es

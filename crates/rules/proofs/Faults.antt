@@ -324,12 +324,12 @@ module _ (im : Image) (cap : Capacity) where
   add-symbols-met (f ∷ fs) es = bind-fails (bind-fails (add-entry-met _ es) (λ _. result)) (λ gs. add-symbols-met fs gs)
 
   detect-met : Met (Map.detect im cap)
-  unfolding Map.detect Map.detect-functions Map.first-entries Map.process-entry-point Map.all-finalized
+  unfolding Map.detect Map.detect-functions Map.walk-given Map.first-entries Map.process-entry-point Map.all-finalized
   detect-met =
-      bind-fails (bind-fails (add-symbols-met (im .functions) []) (λ es. add-entry-met _ es))
-      (λ es. bind-fails (process-each-met (map entryOf es) es)
-      (λ fs. bind-fails (if-fails (λ _. result) (λ _. process-function-at-met _ fs))
-      (λ gs. bind-fails (process-functions-met gs) (λ hs. bind-fails (last-rounds-met hs) (λ is. if-fails (λ _. number (lit≤ tt, lit≤ tt)) (λ _. result))))))
+      bind-fails
+      (bind-fails (bind-fails (add-symbols-met (im .functions) []) (λ es. add-entry-met _ es))
+      (λ es. bind-fails (process-each-met (map entryOf es) es) (λ fs. if-fails (λ _. result) (λ _. process-function-at-met _ fs))))
+      (λ es. bind-fails (process-functions-met es) (λ fs. bind-fails (last-rounds-met fs) (λ gs. if-fails (λ _. number (lit≤ tt, lit≤ tt)) (λ _. result))))
 
 -- a run that gives no map gives the number of a fault
 pub fault-numbers : (im : Image) (cap : Capacity) (n : ℕ) → Map.detect im cap ≡ fault n → Number n

@@ -19,3 +19,4 @@ pub mod Linked
 pub mod Rounds
 pub mod Demand3
 pub mod Faults
+pub mod LoopsEnd

@@ -118,10 +118,10 @@ module _ (im : Image.Image) (checked : Checked im) (cap : Capacity) where
   unfolding Map.process-step
   process-step-rounded r h s = process-next-rounded _ (r .entries) refl (s .late)
 
-  process-step-sane : (r : Round) → Map.is-changed r ≡ true → Sane r → Holds Sane (Map.process-step im cap r)
+  pub process-step-sane : (r : Round) → Map.is-changed r ≡ true → Sane r → Holds Sane (Map.process-step im cap r)
   process-step-sane r h s = map-holds (process-step-map im checked cap true r (record { late = s .late })) (λ t p. record { late = p .late })
 
-  process-falls : (r : Round) → Map.is-changed r ≡ true → Sane r → Holds (λ t. Map.rounds-left t < Map.rounds-left r) (Map.process-step im cap r)
+  pub process-falls : (r : Round) → Map.is-changed r ≡ true → Sane r → Holds (λ t. Map.rounds-left t < Map.rounds-left r) (Map.process-step im cap r)
   unfolding Map.rounds-left
   process-falls r h s = map-holds (process-step-rounded r h s) (λ t p. rw (if-true {A = ℕ} h 1 0) (p .falls))
 
@@ -172,10 +172,10 @@ module _ (im : Image.Image) (checked : Checked im) (cap : Capacity) where
       further t fs c (moves d l) z =
           record { falls = rw (if-true {A = ℕ} refl 1 0) (omega (arith, z .done)); sane = record { late = z .late } }
 
-  last-sane : (r : Round) → Map.is-changed r ≡ true → Sane r → Holds Sane (Map.last-step im cap r)
+  pub last-sane : (r : Round) → Map.is-changed r ≡ true → Sane r → Holds Sane (Map.last-step im cap r)
   last-sane r h s = map-holds (last-step-last r h s) (λ t p. p .sane)
 
-  last-falls : (r : Round) → Map.is-changed r ≡ true → Sane r → Holds (λ t. Map.rounds-left t < Map.rounds-left r) (Map.last-step im cap r)
+  pub last-falls : (r : Round) → Map.is-changed r ≡ true → Sane r → Holds (λ t. Map.rounds-left t < Map.rounds-left r) (Map.last-step im cap r)
   unfolding Map.rounds-left
   last-falls r h s = map-holds (last-step-last r h s) (λ t p. rw (if-true {A = ℕ} h 1 0) (p .falls))
 

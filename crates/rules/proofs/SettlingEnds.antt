@@ -241,10 +241,10 @@ module _ (e : Around) (low : ℕ) (final : Bool) (given : Given (e .image)) wher
       bind-holds (check-tail-call-judged e (Settle.next-possible t) (t .slices))
       (λ v j. settle-less t v (v .answer) refl f (eqb-false _ _ (not-true _ h)) j)
 
-  few-kept : (t : Settling) → Settle.is-unsettled t ≡ true → Few t → Holds Few (Settle.settle-step e low final t)
+  pub few-kept : (t : Settling) → Settle.is-unsettled t ≡ true → Few t → Holds Few (Settle.settle-step e low final t)
   few-kept t h f = map-holds (step-less t h f) (λ u l. record { few = l .few })
 
-  unsettled-falls : (t : Settling) → Settle.is-unsettled t ≡ true → Few t → Holds (λ u. Settle.unsettled e low final u < Settle.unsettled e low final t) (Settle.settle-step e low final t)
+  pub unsettled-falls : (t : Settling) → Settle.is-unsettled t ≡ true → Few t → Holds (λ u. Settle.unsettled e low final u < Settle.unsettled e low final t) (Settle.settle-step e low final t)
   unsettled-falls t h f = map-holds (step-less t h f) (λ u l. l .falls)
 
   pub settle-all-step : (t : Settling) → Settle.is-unsettled t ≡ true → Few t → Settle.settle-all e low final t ≡ (Settle.settle-step e low final t >>= Settle.settle-all e low final)

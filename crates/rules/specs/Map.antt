@@ -254,13 +254,12 @@ module _ (im : Image) (cap : Capacity) where
   unfoldable pub all-finalized : List Entry → Answer (List Entry)
   all-finalized es = if (any is-unfinalized es) (fault 17) (ok es)
 
+  -- what is known beforehand is walked once
+  unfoldable pub walk-given : Answer (List Entry)
+  walk-given = first-entries >>= λ es. process-each (map entryOf es) es >>= λ fs. process-entry-point fs
+
   unfoldable pub detect-functions : Answer (List Entry)
-  detect-functions =
-      first-entries >>= λ es.
-      process-each (map entryOf es) es >>= λ fs.
-      process-entry-point fs >>= λ gs.
-      process-functions gs >>= λ hs.
-      last-rounds hs >>= λ is. all-finalized is
+  detect-functions = walk-given >>= λ es. process-functions es >>= λ fs. last-rounds fs >>= λ gs. all-finalized gs
 
 unfoldable pub detect : Image → Capacity → Answer (List Entry)
 detect im cap = detect-functions im cap
