@@ -9,6 +9,7 @@ pub mod PassesEnd
 pub mod Tidy
 pub mod SkipsEnd
 pub mod SettlingEnds
+pub mod Passes
 pub mod RoundsEnd
 pub mod Starts
 pub mod Sums
@@ -20,3 +21,4 @@ pub mod Rounds
 pub mod Demand3
 pub mod Faults
 pub mod LoopsEnd
+pub mod Runs

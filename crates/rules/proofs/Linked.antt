@@ -26,7 +26,7 @@ use Rattle.rules.proofs.Sizes
 use Rattle.rules.proofs.WalkEnds.{Sound, run-walk-step, run-walk-ends}
 use Rattle.rules.proofs.Keeps
 use Rattle.rules.specs.Ordered
-use Rattle.rules.proofs.Keeps.{Laws, In, Given, Other, run-walk-keeps}
+use Rattle.rules.proofs.Keeps.{Laws, In, Aimed, Other, run-walk-keeps}
 use Rattle.rules.proofs.Tidy
 use Rattle.rules.proofs.Tidy.{Proper, open-one, closed, TidyBlocks, mark-tidy, Aligned, Names, Framed, Word, Tidy, tidy-laws, restarts-tidy}
 use Rattle.rules.proofs.Starts.{among-mark, mark-among}
@@ -281,7 +281,7 @@ AtWord nowhere bs = Unit {0}
 pub record LinkedIn (r : Analyze.Analyzed) : Type 0 where
   pub linked : Linked (r .slices .blocks)
 
-module _ (e : Around) (sound : Sound (e .image)) (given : Given (e .image)) (framed : Framed e) (legal : NoIllegal (e .image)) where
+module _ (e : Around) (sound : Sound (e .image)) (aimed : Aimed (e .image)) (framed : Framed e) (legal : NoIllegal (e .image)) where
   pub record Neat (w : Walk) : Type 0 where
     pub tidy : Tidy e w
     pub linked : Linked (w .slices .blocks)
@@ -289,7 +289,7 @@ module _ (e : Around) (sound : Sound (e .image)) (given : Given (e .image)) (fra
     pub here : AtWord (w .place) (w .slices .blocks)
 
   tidies : Laws e (Tidy e) (Word e) Aligned
-  tidies = tidy-laws e sound given framed
+  tidies = tidy-laws e sound aimed framed
 
   at-word : (k b : ℕ) (w : Walk) → w .place ≡ at k b → Neat w → Walked k b (w .slices .blocks)
   at-word k b w h p = subst (λ q. AtWord q (w .slices .blocks)) h (p .here)
@@ -338,7 +338,7 @@ module _ (e : Around) (sound : Sound (e .image)) (given : Given (e .image)) (fra
   ends-neat : (k b : ℕ) (w : Walk) (s : Slices) → w .place ≡ at k b → s .blocks ≡ put startOf (block b (k + 4)) (w .slices .blocks) → Tidy e (with-place (with-slices w s) idle) → Neat w → Neat (with-place (with-slices w s) idle)
   ends-neat k b w s h q t p =
       let a = at-word k b w h p in
-      let x = Tidy.at-place e sound given framed k b w h (p .tidy) in
+      let x = Tidy.at-place e sound aimed framed k b w h (p .tidy) in
       record {
         tidy = t;
         linked = rw q (put-linked (block b (k + 4)) (w .slices .blocks) (a .even) (all-zip (w .slices .blocks) (λ y z v. past y (x .word .even) z v) (a .free) (p .linked .even)) (a .clear) (p .linked));
@@ -354,7 +354,7 @@ module _ (e : Around) (sound : Sound (e .image)) (given : Given (e .image)) (fra
   unfolding Step.is-met
   goes-on-neat k b w h n t p =
       let a = at-word k b w h p in
-      let x = Tidy.at-place e sound given framed k b w h (p .tidy) in
+      let x = Tidy.at-place e sound aimed framed k b w h (p .tidy) in
       record {
         tidy = t;
         linked = p .linked;
@@ -382,7 +382,7 @@ module _ (e : Around) (sound : Sound (e .image)) (given : Given (e .image)) (fra
   -- a word that is illegal is zero
   never-passes : (k b : ℕ) (w : Walk) → w .place ≡ at k b → In e k → Image.told-at (e .image) k .outcome ≡ illegal → eqb (Image.word (e .image) (address-of k)) 0 ≡ false → Neat w → ⊥
   never-passes k b w h i o z p =
-      let x = Tidy.at-place e sound given framed k b w h (p .tidy) in
+      let x = Tidy.at-place e sound aimed framed k b w h (p .tidy) in
       let c : section-of k ≡ Image.code-number (e .image) = x .word .section in
       let l = leb-true (Image.code-section (e .image) .base) (address-of k) (and-left _ _ i) in
       let r = ltb-true (address-of k) (Image.code-section (e .image) .base + Image.code-section (e .image) .size) (and-right (leb (Image.code-section (e .image) .base) (address-of k)) _ i) in
@@ -439,7 +439,7 @@ module _ (e : Around) (sound : Sound (e .image)) (given : Given (e .image)) (fra
 
   run-halted : (w : Walk) → Neat w → Holds Halted (Exec.run-walk e w)
   run-halted w p =
-      map-holds (both (run-walk-keeps e given Neat (Word e) Aligned neat-laws w p) (run-walk-ends e sound w)) (λ v q. halted v (q .0) (q .1))
+      map-holds (both (run-walk-keeps e aimed Neat (Word e) Aligned neat-laws w p) (run-walk-ends e sound w)) (λ v q. halted v (q .0) (q .1))
 
   not-no : (a : Bool) → not a ≡ false → a ≡ true
   not-no true h = refl
@@ -481,7 +481,7 @@ module _ (e : Around) (sound : Sound (e .image)) (given : Given (e .image)) (fra
   walk-from-halted : (k : ℕ) (w : Walk) → w .pending ≡ [] → Aligned k → Clear k (w .slices .blocks) → Tidy e w → Linked (w .slices .blocks) → Holds Halted (Analyze.walk-from e k w)
   unfolding Analyze.walk-from Step.push Exec.live
   walk-from-halted k w q a c t l =
-      bind-holds {P = Begun k w} (bind-holds (Sizes.limited-is 256 (Step.insert k (w .pending))) (λ p i. good (record { place = refl; pending = i .0 ∙ rw q refl; blocks = refl; tidy = rw (i .0) (restarts-tidy e sound given framed k w a t) })))
+      bind-holds {P = Begun k w} (bind-holds (Sizes.limited-is 256 (Step.insert k (w .pending))) (λ p i. good (record { place = refl; pending = i .0 ∙ rw q refl; blocks = refl; tidy = rw (i .0) (restarts-tidy e sound aimed framed k w a t) })))
       (λ v b. go v b)
     where
       go : (v : Walk) → Begun k w v → Holds Halted (Exec.run-walk e v)
@@ -501,7 +501,7 @@ module _ (e : Around) (sound : Sound (e .image)) (given : Given (e .image)) (fra
   unfolding Analyze.connect Analyze.connect-step Analyze.pass-behind Analyze.is-disconnected
   connect-halted w p =
       loop-keeps (Analyze.is-disconnected e) (Analyze.connect-step e) Halted
-      (λ v h q. run-pass-halted (Blocks.first-disconnected-block (v .slices .blocks) .end) (with-slices v (Lists.discard-possible (Blocks.first-disconnected-block (v .slices .blocks) .start) (v .slices))) (q .rests (not-true _ (and-left _ _ h))) (Tidy.behind-aligned e sound given framed v (q .neat .tidy))
+      (λ v h q. run-pass-halted (Blocks.first-disconnected-block (v .slices .blocks) .end) (with-slices v (Lists.discard-possible (Blocks.first-disconnected-block (v .slices .blocks) .start) (v .slices))) (q .rests (not-true _ (and-left _ _ h))) (Tidy.behind-aligned e sound aimed framed v (q .neat .tidy))
       (clear-discard (Blocks.first-disconnected-block (v .slices .blocks) .end) (Blocks.first-disconnected-block (v .slices .blocks) .start) v (gap-clear (e .image) (v .slices .blocks) (q .neat .tidy .blocks) (q .neat .linked) (eqb-false _ _ (not-true _ (and-right (not (Analyze.is-nowhere (v .place))) _ h)))))
       (tidies .other v (Lists.discard-possible (Blocks.first-disconnected-block (v .slices .blocks) .start) (v .slices)) (discard-other (Blocks.first-disconnected-block (v .slices .blocks) .start) (v .slices)) (q .neat .tidy))
       (linked-discard (Blocks.first-disconnected-block (v .slices .blocks) .start) v (q .neat .linked))) (Analyze.passes-left e) w p
@@ -516,7 +516,7 @@ module _ (e : Around) (sound : Sound (e .image)) (given : Given (e .image)) (fra
   unfolding Analyze.reach-end Analyze.reach-step Analyze.is-short
   reach-end-halted w p =
       loop-keeps (Analyze.is-short e) (Analyze.reach-step e) Halted
-      (λ v h q. run-pass-halted _ v (q .rests (not-true _ (and-left _ _ (and-left _ _ h)))) (Tidy.further-aligned e sound given framed v (q .neat .tidy))
+      (λ v h q. run-pass-halted _ v (q .rests (not-true _ (and-left _ _ (and-left _ _ h)))) (Tidy.further-aligned e sound aimed framed v (q .neat .tidy))
       (further-clear v (q .neat) (eqb-false _ _ (not-true _ (and-right (not (Analyze.is-nowhere (v .place))) _ (and-left _ _ h)))))
       (q .neat .tidy) (q .neat .linked)) (Analyze.passes-left e) w p
 
@@ -528,7 +528,7 @@ module _ (e : Around) (sound : Sound (e .image)) (given : Given (e .image)) (fra
       let z : TidyBlocks (e .image) (u .blocks) = rw (m .as-marked) (mark-tidy (e .image) k (s .blocks) a t) in
       let y : Among startOf k (u .blocks) = rw (m .as-marked) (mark-among k (s .blocks)) in
       if-holds
-      (λ _. bind-holds (walk-from-halted k (Analyze.new-walk u) refl a (start-clear k (u .blocks) b y) (record { blocks = z; names = Tidy.same-names e sound given framed s u (m .rest) (m .refs) n; waits = tt; here = tt }) b)
+      (λ _. bind-holds (walk-from-halted k (Analyze.new-walk u) refl a (start-clear k (u .blocks) b y) (record { blocks = z; names = Tidy.same-names e sound aimed framed s u (m .rest) (m .refs) n; waits = tt; here = tt }) b)
       (λ w p. bind-holds (connect-halted w p)
       (λ v q. bind-holds (reach-end-halted v q)
       (λ x r. if-holds (λ _. good (record { linked = r .neat .linked })) (λ _. if-holds (λ _. none) (λ _. good (record { linked = r .neat .linked })))))))

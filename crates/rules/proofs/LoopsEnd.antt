@@ -15,7 +15,7 @@ use Rattle.rules.specs.Settle.{Settling}
 use Rattle.rules.specs.Map
 use Rattle.rules.specs.Map.{Capacity, Round}
 use Rattle.rules.proofs.WalkEnds.{Sound, walk-falls}
-use Rattle.rules.proofs.Keeps.{Given}
+use Rattle.rules.proofs.Keeps.{Aimed}
 use Rattle.rules.proofs.PassesEnd.{connect-falls, reach-falls}
 use Rattle.rules.proofs.SkipsEnd.{skip-nops-ends, padding-ends}
 use Rattle.rules.proofs.SettlingEnds.{Few, few-kept, unsettled-falls}
@@ -47,22 +47,22 @@ module _ (im : Image) where
   walk-comes s e q w =
       loop-comes Exec.live (Exec.step e) (λ _. Unit {0}) (λ _ _ _. trivial _) (Exec.left e) (walk-falls e (subst Sound (sym q) s)) w tt
 
-  connect-comes : Sound im → Given im → (e : Around) → e .image ≡ im → (w : Walk) → Comes (Analyze.is-disconnected e) (Analyze.connect-step e) w (Analyze.connect e w)
+  connect-comes : Sound im → Aimed im → (e : Around) → e .image ≡ im → (w : Walk) → Comes (Analyze.is-disconnected e) (Analyze.connect-step e) w (Analyze.connect e w)
   unfolding Analyze.connect
   connect-comes s g e q w =
       loop-comes (Analyze.is-disconnected e) (Analyze.connect-step e) (λ _. Unit {0}) (λ _ _ _. trivial _) (Analyze.passes-left e)
-      (connect-falls e (subst Sound (sym q) s) (subst Given (sym q) g)) w tt
+      (connect-falls e (subst Sound (sym q) s) (subst Aimed (sym q) g)) w tt
 
-  reach-comes : Sound im → Given im → (e : Around) → e .image ≡ im → (w : Walk) → Comes (Analyze.is-short e) (Analyze.reach-step e) w (Analyze.reach-end e w)
+  reach-comes : Sound im → Aimed im → (e : Around) → e .image ≡ im → (w : Walk) → Comes (Analyze.is-short e) (Analyze.reach-step e) w (Analyze.reach-end e w)
   unfolding Analyze.reach-end
   reach-comes s g e q w =
       loop-comes (Analyze.is-short e) (Analyze.reach-step e) (λ _. Unit {0}) (λ _ _ _. trivial _) (Analyze.passes-left e)
-      (reach-falls e (subst Sound (sym q) s) (subst Given (sym q) g)) w tt
+      (reach-falls e (subst Sound (sym q) s) (subst Aimed (sym q) g)) w tt
 
-  settle-comes : Given im → (e : Around) → e .image ≡ im → (low : ℕ) (final : Bool) (t : Settling) → length (t .slices .possible) ≤ 128 → Comes Settle.is-unsettled (Settle.settle-step e low final) t (Settle.settle-all e low final t)
+  settle-comes : Aimed im → (e : Around) → e .image ≡ im → (low : ℕ) (final : Bool) (t : Settling) → length (t .slices .possible) ≤ 128 → Comes Settle.is-unsettled (Settle.settle-step e low final) t (Settle.settle-all e low final t)
   unfolding Settle.settle-all
   settle-comes g e q low final t few =
-      let h : Given (e .image) = subst Given (sym q) g in
+      let h : Aimed (e .image) = subst Aimed (sym q) g in
       loop-comes Settle.is-unsettled (Settle.settle-step e low final) (Few e low final h) (few-kept e low final h) (Settle.unsettled e low final)
       (unsettled-falls e low final h) t (record { few = few })
 
@@ -71,11 +71,11 @@ module _ (im : Image) where
   loops-end cap checked =
       record {
         walk = walk-comes (checked .sound);
-        connect = connect-comes (checked .sound) (checked .given);
-        reach-end = reach-comes (checked .sound) (checked .given);
+        connect = connect-comes (checked .sound) (checked .aimed);
+        reach-end = reach-comes (checked .sound) (checked .aimed);
         nops = skip-nops-ends;
         padding = padding-ends im cap;
-        settle = settle-comes (checked .given);
+        settle = settle-comes (checked .aimed);
         process = λ r m. loop-comes Map.is-changed (Map.process-step im cap) (Sane im checked cap) (process-step-sane im checked cap) Map.rounds-left (process-falls im checked cap) r (record { late = m });
         last = λ r m. loop-comes Map.is-changed (Map.last-step im cap) (Sane im checked cap) (last-sane im checked cap) Map.rounds-left (last-falls im checked cap) r (record { late = m });
         started = walk-given-table im cap checked;

@@ -26,7 +26,7 @@ use Rattle.rules.specs.Map.{Capacity, Round, round}
 use Rattle.rules.specs.Accounted.{code-first, CodeWord}
 use Rattle.rules.proofs.Sizes
 use Rattle.rules.proofs.WalkEnds.{Sound}
-use Rattle.rules.proofs.Keeps.{Given}
+use Rattle.rules.proofs.Keeps.{Aimed}
 use Rattle.rules.proofs.Tidy.{bottom, last-end-low, Aligned, Framed}
 use Rattle.rules.proofs.Starts.{analyze-lies, analyze-closed}
 use Rattle.rules.proofs.Settled.{Owned, end-even, front, finalize-final, analyze-owned, settle-all-owned}
@@ -43,7 +43,7 @@ pub record SymbolFits (f : Symbol) : Type 0 where
 
 pub record Checked (im : Image.Image) : Type 0 where
   pub sound : Sound im
-  pub given : Given im
+  pub aimed : Aimed im
   pub symbols : All SymbolFits (im .functions)
   pub skips : All (λ (r : Range). r .past % 4 ≡ 0) (im .skips)
   pub entry-even : im .entry % 4 ≡ 0
@@ -199,9 +199,9 @@ module _ (im : Image.Image) where
       unfolding Map.process-function-at
       process-function-at-map k es n f m =
           bind-holds {P = Walked k}
-          (moreover (analyze-lies e (checked .given) (checked .sound) k [])
+          (moreover (analyze-lies e (checked .aimed) (checked .sound) k [])
           (λ y. let c : CodeWord im k = code-word k n (y .lies) in
-          map-holds (both (analyze-closed e (checked .given) k []) (analyze-owned e (checked .sound) (checked .given) (framed k (end-of-entry k es) es (c .low) (end-limit k es m) m) k k (Lists.with-only []) (n .even) (record { rising = tt; proper = tt }) (record { refers = tt; maybe = tt }) (omega arith) (inl refl) (λ _. record { even = tt; apart = tt })))
+          map-holds (both (analyze-closed e (checked .aimed) k []) (analyze-owned e (checked .sound) (checked .aimed) (framed k (end-of-entry k es) es (c .low) (end-limit k es m) m) k k (Lists.with-only []) (n .even) (record { rising = tt; proper = tt }) (record { refers = tt; maybe = tt }) (omega arith) (inl refl) (λ _. record { even = tt; apart = tt })))
           (λ r p. record { word = c; shut = p .0 .shut; owned = p .1 .owned })))
           (λ r p. if-holds (λ h. store-function-map k (r .slices) es n (p .word) (p .owned) (p .shut h) m) (λ _. set-aside-map k es n (p .word) f m))
         where
@@ -251,7 +251,7 @@ module _ (im : Image.Image) where
 
         go : (s : Slices) → Owned im (x .entry) s → bottom im ≤ first-start (s .blocks) → Holds LateRound (Map.finalize-entry im cap final (x .entry) (some s) r)
         go s w f =
-            bind-holds (settle-all-owned e (checked .sound) (checked .given) (framed false (first-start (s .blocks)) (last-end (s .blocks)) (r .entries) f (omega (arith, last-end-low im (s .blocks) (w .tidy), checked .sound .fits)) (m .late)) (x .entry) (key (section-of (x .entry)) 0) final (settling s (key (section-of (x .entry)) 0)) (record { owned = w }))
+            bind-holds (settle-all-owned e (checked .sound) (checked .aimed) (framed false (first-start (s .blocks)) (last-end (s .blocks)) (r .entries) f (omega (arith, last-end-low im (s .blocks) (w .tidy), checked .sound .fits)) (m .late)) (x .entry) (key (section-of (x .entry)) 0) final (settling s (key (section-of (x .entry)) 0)) (record { owned = w }))
             (λ t q. if-holds (λ _. keep-settled-map (x .entry) (t .slices) r n c (q .owned) m) (λ _. good m))
           where
             e : Around

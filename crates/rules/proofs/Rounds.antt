@@ -7,7 +7,7 @@ use mathlib.Core.Logic.{_⊎_, inl, inr}
 use native.Mathlib.Omega.{arith}
 use lib.ListN.{length}
 use borrow.Author.Tests.{eqb-true, eqb-false}
-use Rattle.rules.specs.Choice.{if, by-if, if-true, Answer, _>>=_}
+use Rattle.rules.specs.Choice.{if, if-true, Answer, _>>=_}
 use Rattle.rules.specs.Loop.{Holds, good, bind-holds, map-holds, if-holds, both, loop, loop-step, loop-ends, loop-keeps}
 use Rattle.rules.specs.Ordered.{self, put, has, empty, Rising}
 use Rattle.rules.specs.Image
@@ -17,6 +17,7 @@ use Rattle.rules.specs.Map.{Capacity, Round, round, to-do}
 use Rattle.rules.specs.Accounted.{AllWords}
 use Rattle.rules.proofs.Sizes
 use Rattle.rules.proofs.Placed.{Checked, Placed, Table, finalize-functions-map, process-step-map}
+use Rattle.rules.proofs.Passes.{code-from-low}
 use Rattle.rules.proofs.Searched.{Search, IsWalked, search}
 use Rattle.rules.proofs.RoundsEnd.{Added, Stored, Waits, Moved, stays, moves, Rounded, passed-rounded, add-entries-added, finalize-functions-passed, process-function-at-stored, first-waits}
 use Rattle.rules.proofs.Rows.{All, all-map, all-zip, Among, has-among, among-put-cases, all-above}
@@ -52,11 +53,6 @@ all-walked (x ∷ es) n w = by (x .analyzed) refl w (all-walked es (n .1))
     by : (a : Bool) → x .analyzed ≡ a → if a (Map.first-unbounded-function es) (x .entry) ≡ 0 → (Map.first-unbounded-function es ≡ 0 → All (λ (x : Entry). x .analyzed ≡ true) es) → All (λ (x : Entry). x .analyzed ≡ true) (x ∷ es)
     by true e w f = (e, f w)
     by false e w f = absurd (n .0 w)
-
-code-from-low : (i : ℕ) (ss : List Image.Section) → i ≤ Image.code-from i ss
-code-from-low i [] = omega arith
-code-from-low i (s ∷ ss) =
-    by-if (λ n. i ≤ n) (Image.is-code (s .kind)) {x = i} {y = Image.code-from (suc i) ss} (λ _. omega arith) (λ _. omega (arith, code-from-low (suc i) ss))
 
 code-number-low : (im : Image.Image) → 1 ≤ Image.code-number im
 unfolding Image.code-number

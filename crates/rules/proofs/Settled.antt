@@ -26,7 +26,7 @@ use Rattle.rules.specs.Finalize
 use Rattle.rules.specs.Settle
 use Rattle.rules.specs.Settle.{Settling, settling}
 use Rattle.rules.proofs.WalkEnds.{Sound}
-use Rattle.rules.proofs.Keeps.{Given, without-few, Other, add-reference-other, set-block-puts}
+use Rattle.rules.proofs.Keeps.{Aimed, without-few, Other, add-reference-other, set-block-puts}
 use Rattle.rules.proofs.SettlingEnds.{filter-few, Grew, walked, marked, analyze-grew}
 use Rattle.rules.proofs.Tidy.{bottom, Proper, open-one, closed, TidyBlocks, put-tidy, Aligned, Names, Framed, analyze-tidy}
 use Rattle.rules.specs.Accounted.{NoIllegal}
@@ -177,7 +177,7 @@ module _ (im : Image.Image) where
 
 -- ---- settling
 
-module _ (e : Around) (sound : Sound (e .image)) (given : Given (e .image)) (framed : Framed e) where
+module _ (e : Around) (sound : Sound (e .image)) (aimed : Aimed (e .image)) (framed : Framed e) where
   pub record OwnedBy (k : ℕ) (r : Analyze.Analyzed) : Type 0 where
     pub owned : Owned (e .image) k (r .slices)
 
@@ -187,7 +187,7 @@ module _ (e : Around) (sound : Sound (e .image)) (given : Given (e .image)) (fra
 
   pub analyze-owned : (k j : ℕ) (s : Slices) → Aligned j → TidyBlocks (e .image) (s .blocks) → Names s → length (s .possible) ≤ 128 → (k ≡ j) ⊎ Among startOf k (s .blocks) → (NoIllegal (e .image) → Linked (s .blocks)) → Holds (OwnedBy k) (Analyze.analyze e j s)
   analyze-owned k j s a t n f m l =
-      map-holds (both (both (both (analyze-tidy e sound given framed j s a t n) (analyze-starts e given j k s m)) (analyze-grew e given j s f)) (assuming {P = LinkedIn} (λ i. analyze-linked e sound given framed i j s a t n (l i))))
+      map-holds (both (both (both (analyze-tidy e sound aimed framed j s a t n) (analyze-starts e aimed j k s m)) (analyze-grew e aimed j s f)) (assuming {P = LinkedIn} (λ i. analyze-linked e sound aimed framed i j s a t n (l i))))
       (λ r p. record { owned = record { tidy = p .0 .0 .0 .blocks; names = p .0 .0 .0 .names; few = grew-few s f (p .0 .1 .grew); own = p .0 .0 .1 .starts; linked = λ i. p .1 i .linked } })
 
   module _ (k : ℕ) where

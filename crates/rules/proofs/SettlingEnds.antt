@@ -22,7 +22,7 @@ use Rattle.rules.specs.TailCall.{is-not, is, possibly}
 use Rattle.rules.specs.Settle
 use Rattle.rules.specs.Settle.{Settling, settling}
 use Rattle.rules.proofs.Sizes
-use Rattle.rules.proofs.Keeps.{Laws, Given, without-few, analyze-walk-keeps}
+use Rattle.rules.proofs.Keeps.{Laws, Aimed, without-few, analyze-walk-keeps}
 
 -- ---- lists of addresses
 
@@ -99,7 +99,7 @@ pub data Grew (s t : Slices) : Type 0 where
   walked : length (s .blocks) < length (t .blocks) → length (s .blocks) < 256 → length (t .possible) ≤ 128 → Grew s t
   marked : length (s .blocks) ≤ length (t .blocks) → t .possible ≡ s .possible → Grew s t
 
-module _ (e : Around) (given : Given (e .image)) where
+module _ (e : Around) (aimed : Aimed (e .image)) where
   pub record Big (m : ℕ) (w : Walk) : Type 0 where
     pub many : m ≤ length (w .slices .blocks)
     pub few : length (w .slices .possible) ≤ 128
@@ -145,7 +145,7 @@ module _ (e : Around) (given : Given (e .image)) where
       (λ new. let n = Sizes.mark-new k (s .blocks) new in
       let j : length (t .blocks) ≡ suc (length (s .blocks)) = ap length (m .as-marked) ∙ n in
       map-holds
-      (analyze-walk-keeps e given (Big (suc (length (s .blocks)))) Any Any (big-laws _) (λ j w _ x. record { many = x .many; few = x .few }) (λ w _ _. tt) (λ w _ _. tt) k t tt (record { many = omega arith; few = rw (m .rest) few }))
+      (analyze-walk-keeps e aimed (Big (suc (length (s .blocks)))) Any Any (big-laws _) (λ j w _ x. record { many = x .many; few = x .few }) (λ w _ _. tt) (λ w _ _. tt) k t tt (record { many = omega arith; few = rw (m .rest) few }))
       (λ r f. record { grew = subst (Grew s) (f .lists) (walked (f .keeps .many) (omega (arith, m .fit)) (f .keeps .few)) }))
       (λ _. good (record { grew = marked (Sizes.marked-bigger s m .more) (m .rest) })))
 
@@ -181,7 +181,7 @@ module _ (e : Around) where
 never : (a : TailCall.TailCall) → a ≡ possibly → a ≡ is-not → ⊥
 never a p q = let z : _≡_ {A = ℕ} 0 1 = cc in omega arith
 
-module _ (e : Around) (low : ℕ) (final : Bool) (given : Given (e .image)) where
+module _ (e : Around) (low : ℕ) (final : Bool) (aimed : Aimed (e .image)) where
   pub record Few (t : Settling) : Type 0 where
     pub few : length (t .slices .possible) ≤ 128
 
@@ -207,7 +207,7 @@ module _ (e : Around) (low : ℕ) (final : Bool) (given : Given (e .image)) wher
   include-less : (t : Settling) (k c : ℕ) (s : Slices) → Few t → Discarded t (Lists.discard-possible k s) → Holds (Less t) (Settle.include e low final k s >>= λ u. ok (settling u c))
   unfolding Settle.include
   include-less t k c s f x =
-      bind-holds (bind-holds (analyze-grew e given k (Lists.discard-possible k s) (omega (arith, f .few, x .less))) (λ r g. good (g .grew)))
+      bind-holds (bind-holds (analyze-grew e aimed k (Lists.discard-possible k s) (omega (arith, f .few, x .less))) (λ r g. good (g .grew)))
       (λ u g. good (grew-less t _ u c f x g))
 
   add-reference-less : (t : Settling) (k c : ℕ) (d : Slices) → Few t → Discarded t d → Holds (Less t) (Lists.add-reference k d >>= λ u. ok (settling u c))

@@ -9,6 +9,7 @@ pub mod Branches
 pub mod Blocks
 pub mod Address
 pub mod Image
+pub mod Given
 pub mod Slices
 pub mod Known
 pub mod JumpTable
@@ -18,5 +19,8 @@ pub mod Analyze
 pub mod TailCall
 pub mod Finalize
 pub mod Settle
+pub mod Check
 pub mod Map
 pub mod Accounted
+pub mod Lines
+pub mod Run
