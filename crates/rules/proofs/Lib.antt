@@ -22,3 +22,6 @@ pub mod Demand3
 pub mod Faults
 pub mod LoopsEnd
 pub mod Runs
+pub mod Whole
+pub mod Images
+pub mod Examples

@@ -22,5 +22,6 @@ pub mod Settle
 pub mod Check
 pub mod Map
 pub mod Accounted
+pub mod Text
 pub mod Lines
 pub mod Run

@@ -6,43 +6,13 @@ use mathlib.Core.Option.{Option, none, some}
 use lib.Dec.{ltb, eqb}
 use Rattle.rules.specs.Choice.{if, Answer, ok, fault}
 use Rattle.rules.specs.Address.{address-of}
+use Rattle.rules.specs.Text.{bytes}
 use Rattle.rules.specs.Blocks.{Block}
 use Rattle.rules.specs.Slices.{Slices, Ways, Table}
 use Rattle.rules.specs.Known.{Entry, is-function}
 
 abbrev pub Line : Type 0
 Line = List ℕ
-
--- letters and signs by their bytes
-abbrev pub letter-R : ℕ
-letter-R = 82
-
-abbrev pub letter-F : ℕ
-letter-F = 70
-
-abbrev pub letter-B : ℕ
-letter-B = 66
-
-abbrev pub letter-C : ℕ
-letter-C = 67
-
-abbrev pub letter-X : ℕ
-letter-X = 88
-
-abbrev pub letter-J : ℕ
-letter-J = 74
-
-abbrev pub letter-N : ℕ
-letter-N = 78
-
-abbrev pub space : ℕ
-space = 32
-
-abbrev pub dash : ℕ
-dash = 45
-
-abbrev pub newline : ℕ
-newline = 10
 
 -- a hexadecimal digit, in capitals
 abbrev pub digit : ℕ → ℕ
@@ -59,30 +29,30 @@ address k = hex 8 (address-of k)
 
 -- "- is none"
 abbrev pub address-or-dash : ℕ → Line
-address-or-dash k = if (eqb k 0) (dash ∷ []) (address k)
+address-or-dash k = if (eqb k 0) (bytes "-") (address k)
 
 abbrev pub flag : Bool → ℕ
 flag b = if b 49 48
 
 -- R: number, decimal, two digits
 unfoldable pub line-R : ℕ → Line
-line-R n = letter-R ∷ space ∷ (48 + n / 10) ∷ (48 + n % 10) ∷ []
+line-R n = bytes "R " ++ ((48 + n / 10) ∷ (48 + n % 10) ∷ [])
 
 -- F: entry, end, prologue, epilogue, digits for conditional `blr`, `rfi`, load of r1
 unfoldable pub line-F : Entry → Slices → Line
 line-F x s =
-    letter-F ∷ space ∷ address (x .entry) ++ (space ∷ address (x .end)) ++ (space ∷ address-or-dash (s .prologue)) ++
-    (space ∷ address-or-dash (s .epilogue)) ++ (space ∷ flag (s .conditional-blr) ∷ flag (s .rfi) ∷ flag (s .r1-load) ∷ [])
+    bytes "F " ++ address (x .entry) ++ bytes " " ++ address (x .end) ++ bytes " " ++ address-or-dash (s .prologue) ++
+    bytes " " ++ address-or-dash (s .epilogue) ++ bytes " " ++ (flag (s .conditional-blr) ∷ flag (s .rfi) ∷ flag (s .r1-load) ∷ [])
 
 -- B: start, end
 abbrev pub lines-B : List Block → List Line
 lines-B [] = []
-lines-B (b ∷ l) = (letter-B ∷ space ∷ address (b .start) ++ (space ∷ address-or-dash (b .end))) ∷ lines-B l
+lines-B (b ∷ l) = (bytes "B " ++ address (b .start) ++ bytes " " ++ address-or-dash (b .end)) ∷ lines-B l
 
 -- C: from, to
 abbrev pub lines-from : ℕ → List ℕ → List Line
 lines-from k [] = []
-lines-from k (t ∷ l) = (letter-C ∷ space ∷ address k ++ (space ∷ address t)) ∷ lines-from k l
+lines-from k (t ∷ l) = (bytes "C " ++ address k ++ bytes " " ++ address t) ∷ lines-from k l
 
 abbrev pub lines-C : List Ways → List Line
 lines-C [] = []
@@ -91,12 +61,12 @@ lines-C (w ∷ l) = lines-from (w .from) (w .targets) ++ lines-C l
 -- X: reference
 abbrev pub lines-X : List ℕ → List Line
 lines-X [] = []
-lines-X (k ∷ l) = (letter-X ∷ space ∷ address k) ∷ lines-X l
+lines-X (k ∷ l) = (bytes "X " ++ address k) ∷ lines-X l
 
 -- J: table, size
 abbrev pub lines-J : List Table → List Line
 lines-J [] = []
-lines-J (t ∷ l) = (letter-J ∷ space ∷ address (t .address) ++ (space ∷ hex 8 (t .size))) ∷ lines-J l
+lines-J (t ∷ l) = (bytes "J " ++ address (t .address) ++ bytes " " ++ hex 8 (t .size)) ∷ lines-J l
 
 -- "Each F is followed by its own B, C, X and J lines"
 abbrev pub lines-function : Entry → Option Slices → List Line
@@ -105,7 +75,7 @@ lines-function x (some s) = line-F x s ∷ lines-B (s .blocks) ++ lines-C (s .wa
 
 -- "N is an entry set aside"
 unfoldable pub lines-entry : Entry → List Line
-lines-entry x = if (is-function x) (lines-function x (x .slices)) ((letter-N ∷ space ∷ address (x .entry)) ∷ [])
+lines-entry x = if (is-function x) (lines-function x (x .slices)) ((bytes "N " ++ address (x .entry)) ∷ [])
 
 -- "these groups and the N lines stand in order of entry"
 abbrev pub lines-map : List Entry → List Line
@@ -120,4 +90,4 @@ lines (fault n) = line-R n ∷ []
 -- each line and a newline
 abbrev pub text : List Line → List ℕ
 text [] = []
-text (l ∷ ls) = l ++ (newline ∷ text ls)
+text (l ∷ ls) = l ++ bytes "\n" ++ text ls
