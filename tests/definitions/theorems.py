@@ -64,7 +64,8 @@ def given(frames):
     words = lambda d: nested('0x%08X' % int.from_bytes(d[i:i + 4], 'big') for i in range(0, len(d), 4))
     symbol = lambda s: f'symbol {number(s[0])} {number(s[1])} {s[2]}'
     return 'record {\n      ' + ';\n      '.join((
-        'sections = ' + listed(f'section {k} {number(b)} {number(s)} {words(d)}' for k, b, s, d in sections),
+        'sections = ' + listed(f'section {k} {number(b)} {number(s)} {number(len(d))}' for k, b, s, d in sections),
+        'bytes = bytes-of ' + words(b''.join(d for *_, d in sections)),
         'outcomes = ' + listed(outcome(*o) for o in outcomes),
         'functions = ' + listed(map(symbol, functions)),
         'objects = ' + listed(map(symbol, objects)),
@@ -87,7 +88,7 @@ HEAD = '''use mathlib.Core.Path.{_≡_, refl}
 use mathlib.Core.List.{[], _∷_}
 use Rattle.rules.specs.Text.{bytes}
 use Rattle.rules.specs.Given.{Given}
-use Rattle.rules.proofs.Images.{section, does, jumps, uses-table, lists, branch, symbol, range}
+use Rattle.rules.proofs.Images.{bytes-of, section, does, jumps, uses-table, lists, branch, symbol, range}
 use Rattle.rules.proofs.Whole.{whole, enough}
 '''
 

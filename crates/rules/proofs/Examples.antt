@@ -4,13 +4,14 @@ use mathlib.Core.Path.{_≡_, refl}
 use mathlib.Core.List.{[], _∷_}
 use Rattle.rules.specs.Text.{bytes}
 use Rattle.rules.specs.Given.{Given}
-use Rattle.rules.proofs.Images.{section, does, jumps, uses-table, lists, branch, symbol, range}
+use Rattle.rules.proofs.Images.{bytes-of, section, does, jumps, uses-table, lists, branch, symbol, range}
 use Rattle.rules.proofs.Whole.{whole, enough}
 
 unfoldable pub sample : Given
 sample =
     record {
-      sections = section 1 0x1000 8 (0x4E800020 ∷ 0x4E800020 ∷ []) ∷ [];
+      sections = section 1 0x1000 8 8 ∷ [];
+      bytes = bytes-of (0x4E800020 ∷ 0x4E800020 ∷ []);
       outcomes = does 3 0 ∷ does 3 0 ∷ [];
       functions = [];
       objects = [];
@@ -31,7 +32,8 @@ sample-lines = refl
 unfoldable pub short-entries : Given
 short-entries =
     record {
-      sections = section 1 0x1000 8 (0x4E800020 ∷ 0x4E800020 ∷ []) ∷ [];
+      sections = section 1 0x1000 8 8 ∷ [];
+      bytes = bytes-of (0x4E800020 ∷ 0x4E800020 ∷ []);
       outcomes = does 3 0 ∷ does 3 0 ∷ [];
       functions = [];
       objects = [];
@@ -48,7 +50,8 @@ short-entries-lines = refl
 unfoldable pub short-lists : Given
 short-lists =
     record {
-      sections = section 1 0x1000 8 (0x4E800020 ∷ 0x4E800020 ∷ []) ∷ [];
+      sections = section 1 0x1000 8 8 ∷ [];
+      bytes = bytes-of (0x4E800020 ∷ 0x4E800020 ∷ []);
       outcomes = does 3 0 ∷ does 3 0 ∷ [];
       functions = [];
       objects = [];
@@ -65,7 +68,8 @@ short-lists-lines = refl
 unfoldable pub exact-room : Given
 exact-room =
     record {
-      sections = section 1 0x1000 8 (0x4E800020 ∷ 0x4E800020 ∷ []) ∷ [];
+      sections = section 1 0x1000 8 8 ∷ [];
+      bytes = bytes-of (0x4E800020 ∷ 0x4E800020 ∷ []);
       outcomes = does 3 0 ∷ does 3 0 ∷ [];
       functions = [];
       objects = [];
@@ -86,7 +90,8 @@ exact-room-lines = refl
 unfoldable pub second-prologue : Given
 second-prologue =
     record {
-      sections = section 1 0x100 0x14 (0x9421FFF0 ∷ 0x7C0802A6 ∷ 0x48000004 ∷ 0x7C21196E ∷ 0x7C0802A6 ∷ []) ∷ [];
+      sections = section 1 0x100 0x14 0x14 ∷ [];
+      bytes = bytes-of (0x9421FFF0 ∷ 0x7C0802A6 ∷ 0x48000004 ∷ 0x7C21196E ∷ 0x7C0802A6 ∷ []);
       outcomes = does 0 0 ∷ does 0 0 ∷ jumps 0 0x10c ∷ does 0 0 ∷ does 0 0 ∷ [];
       functions = [];
       objects = [];
@@ -103,7 +108,8 @@ second-prologue-lines = refl
 unfoldable pub other-epilogue : Given
 other-epilogue =
     record {
-      sections = section 1 0x1000 0xc (0x7C0803A6 ∷ 0x7C2B0B78 ∷ 0x7C0803A6 ∷ []) ∷ [];
+      sections = section 1 0x1000 0xc 0xc ∷ [];
+      bytes = bytes-of (0x7C0803A6 ∷ 0x7C2B0B78 ∷ 0x7C0803A6 ∷ []);
       outcomes = does 1 0 ∷ jumps 0 0x1000 ∷ does 0 0 ∷ [];
       functions = [];
       objects = [];
@@ -120,7 +126,8 @@ other-epilogue-lines = refl
 unfoldable pub branch-to-table : Given
 branch-to-table =
     record {
-      sections = section 1 0x1000 4 (0x40820000 ∷ []) ∷ [];
+      sections = section 1 0x1000 4 4 ∷ [];
+      bytes = bytes-of (0x40820000 ∷ []);
       outcomes = lists 0 (branch 0 1 0x1000 ∷ []) ∷ [];
       functions = [];
       objects = [];
@@ -137,7 +144,8 @@ branch-to-table-lines = refl
 unfoldable pub jump-to-itself : Given
 jump-to-itself =
     record {
-      sections = section 1 0x1000 0xc (0x4E800020 ∷ 0x48000004 ∷ 0x40820000 ∷ []) ∷ section 2 0x2000 4 (0x00000000 ∷ []) ∷ [];
+      sections = section 1 0x1000 0xc 0xc ∷ section 2 0x2000 4 4 ∷ [];
+      bytes = bytes-of (0x4E800020 ∷ 0x48000004 ∷ 0x40820000 ∷ 0x00000000 ∷ []);
       outcomes = does 3 0 ∷ jumps 0 0x1008 ∷ lists 0 (branch 0 0 0x1004 ∷ branch 0 0 0x2000 ∷ []) ∷ [];
       functions = symbol 0x1008 0 0 ∷ [];
       objects = [];
@@ -154,7 +162,8 @@ jump-to-itself-lines = refl
 unfoldable pub entry-nowhere : Given
 entry-nowhere =
     record {
-      sections = section 1 0x1000 4 (0x4E800420 ∷ []) ∷ section 2 0x2000 4 (0x00000004 ∷ []) ∷ [];
+      sections = section 1 0x1000 4 4 ∷ section 2 0x2000 4 4 ∷ [];
+      bytes = bytes-of (0x4E800420 ∷ 0x00000004 ∷ []);
       outcomes = uses-table 0 0x2000 4 ∷ [];
       functions = [];
       objects = [];
@@ -171,7 +180,8 @@ entry-nowhere-lines = refl
 unfoldable pub entry-misaligned : Given
 entry-misaligned =
     record {
-      sections = section 1 0x1000 4 (0x4E800420 ∷ []) ∷ section 2 0x2000 8 (0x00001002 ∷ 0x00000004 ∷ []) ∷ [];
+      sections = section 1 0x1000 4 4 ∷ section 2 0x2000 8 8 ∷ [];
+      bytes = bytes-of (0x4E800420 ∷ 0x00001002 ∷ 0x00000004 ∷ []);
       outcomes = uses-table 0 0x2000 8 ∷ [];
       functions = [];
       objects = [];
@@ -188,7 +198,8 @@ entry-misaligned-lines = refl
 unfoldable pub length-misaligned : Given
 length-misaligned =
     record {
-      sections = section 1 0x1000 4 (0x4E800420 ∷ []) ∷ section 2 0x2000 8 (0x00001000 ∷ 0x00001000 ∷ []) ∷ [];
+      sections = section 1 0x1000 4 4 ∷ section 2 0x2000 8 8 ∷ [];
+      bytes = bytes-of (0x4E800420 ∷ 0x00001000 ∷ 0x00001000 ∷ []);
       outcomes = uses-table 0 0x2000 6 ∷ [];
       functions = [];
       objects = [];
@@ -205,7 +216,8 @@ length-misaligned-lines = refl
 unfoldable pub open-at-the-end : Given
 open-at-the-end =
     record {
-      sections = section 1 0x1000 4 (0x40820000 ∷ []) ∷ section 2 0x2000 4 (0x00000000 ∷ []) ∷ [];
+      sections = section 1 0x1000 4 4 ∷ section 2 0x2000 4 4 ∷ [];
+      bytes = bytes-of (0x40820000 ∷ 0x00000000 ∷ []);
       outcomes = lists 0 (branch 0 0 0x2000 ∷ []) ∷ [];
       functions = [];
       objects = [];
@@ -222,7 +234,8 @@ open-at-the-end-lines = refl
 unfoldable pub epilogue-alone : Given
 epilogue-alone =
     record {
-      sections = section 1 0x1000 8 (0x7C0803A6 ∷ 0x38210010 ∷ []) ∷ [];
+      sections = section 1 0x1000 8 8 ∷ [];
+      bytes = bytes-of (0x7C0803A6 ∷ 0x38210010 ∷ []);
       outcomes = does 0 0 ∷ jumps 0 0x1004 ∷ [];
       functions = [];
       objects = [];
@@ -239,7 +252,8 @@ epilogue-alone-lines = refl
 unfoldable pub last-open : Given
 last-open =
     record {
-      sections = section 1 0x80003100 0x10 (0x7C0802A6 ∷ 0x90010014 ∷ 0x38630001 ∷ 0x4E800020 ∷ []) ∷ [];
+      sections = section 1 0x80003100 0x10 0x10 ∷ [];
+      bytes = bytes-of (0x7C0802A6 ∷ 0x90010014 ∷ 0x38630001 ∷ 0x4E800020 ∷ []);
       outcomes = does 0 0 ∷ does 0 0 ∷ jumps 0 0x8000310c ∷ does 3 0 ∷ [];
       functions = [];
       objects = [];
@@ -256,7 +270,8 @@ last-open-lines = refl
 unfoldable pub end-above-next : Given
 end-above-next =
     record {
-      sections = section 1 0x80003100 8 (0x38630001 ∷ 0x4E800020 ∷ []) ∷ [];
+      sections = section 1 0x80003100 8 8 ∷ [];
+      bytes = bytes-of (0x38630001 ∷ 0x4E800020 ∷ []);
       outcomes = does 0 0 ∷ does 3 0 ∷ [];
       functions = [];
       objects = [];
@@ -273,7 +288,8 @@ end-above-next-lines = refl
 unfoldable pub pending-outside : Given
 pending-outside =
     record {
-      sections = section 1 0x1000 8 (0x9421FFF0 ∷ 0x7C0802A6 ∷ []) ∷ [];
+      sections = section 1 0x1000 8 8 ∷ [];
+      bytes = bytes-of (0x9421FFF0 ∷ 0x7C0802A6 ∷ []);
       outcomes = does 0 0 ∷ does 2 0 ∷ [];
       functions = [];
       objects = [];
@@ -290,7 +306,8 @@ pending-outside-lines = refl
 unfoldable pub past-the-end : Given
 past-the-end =
     record {
-      sections = section 1 0x1000 4 (0x38630001 ∷ []) ∷ [];
+      sections = section 1 0x1000 4 4 ∷ [];
+      bytes = bytes-of (0x38630001 ∷ []);
       outcomes = does 0 0 ∷ [];
       functions = [];
       objects = [];
@@ -307,7 +324,8 @@ past-the-end-lines = refl
 unfoldable pub pass-marks-nothing : Given
 pass-marks-nothing =
     record {
-      sections = section 1 0x4000 0x18 (0x38630001 ∷ 0x38630001 ∷ 0x38630001 ∷ 0x4E800020 ∷ 0x38630001 ∷ 0x4E800020 ∷ []) ∷ [];
+      sections = section 1 0x4000 0x18 0x18 ∷ [];
+      bytes = bytes-of (0x38630001 ∷ 0x38630001 ∷ 0x38630001 ∷ 0x4E800020 ∷ 0x38630001 ∷ 0x4E800020 ∷ []);
       outcomes = lists 0 (branch 0 0 0x4008 ∷ branch 0 0 0x4014 ∷ []) ∷ does 1 0 ∷ does 0 0 ∷ does 3 0 ∷ jumps 0 0x4008 ∷ does 3 0 ∷ [];
       functions = [];
       objects = [];
@@ -324,7 +342,8 @@ pass-marks-nothing-lines = refl
 unfoldable pub remains : Given
 remains =
     record {
-      sections = section 1 0x4000 0xc (0x38630001 ∷ 0x38630001 ∷ 0x4E800020 ∷ []) ∷ section 3 0x410c 4 (0x00004000 ∷ []) ∷ [];
+      sections = section 1 0x4000 0xc 0xc ∷ section 3 0x410c 4 4 ∷ [];
+      bytes = bytes-of (0x38630001 ∷ 0x38630001 ∷ 0x4E800020 ∷ 0x00004000 ∷ []);
       outcomes = jumps 0 0x4008 ∷ uses-table 0 0x410c 8 ∷ does 3 0 ∷ [];
       functions = [];
       objects = [];
@@ -341,7 +360,8 @@ remains-lines = refl
 unfoldable pub finalized-again : Given
 finalized-again =
     record {
-      sections = section 1 0x10a0 8 (0x38630001 ∷ 0x38630001 ∷ []) ∷ [];
+      sections = section 1 0x10a0 8 8 ∷ [];
+      bytes = bytes-of (0x38630001 ∷ 0x38630001 ∷ []);
       outcomes = does 0 0 ∷ lists 0 (branch 1 0 0x10a4 ∷ []) ∷ [];
       functions = [];
       objects = [];
@@ -358,7 +378,8 @@ finalized-again-lines = refl
 unfoldable pub trial-ends-the-run : Given
 trial-ends-the-run =
     record {
-      sections = section 1 0x1000 0x14 (0x48000008 ∷ 0x4E800020 ∷ 0x4E800420 ∷ 0x38630001 ∷ 0x4E800020 ∷ []) ∷ section 2 0x2000 4 (0x00000000 ∷ []) ∷ [];
+      sections = section 1 0x1000 0x14 0x14 ∷ section 2 0x2000 4 4 ∷ [];
+      bytes = bytes-of (0x48000008 ∷ 0x4E800020 ∷ 0x4E800420 ∷ 0x38630001 ∷ 0x4E800020 ∷ 0x00000000 ∷ []);
       outcomes = jumps 0 0x1008 ∷ does 3 0 ∷ uses-table 0 0x2000 3 ∷ does 0 0 ∷ does 3 0 ∷ [];
       functions = symbol 0x100c 0 0 ∷ [];
       objects = [];
@@ -375,7 +396,8 @@ trial-ends-the-run-lines = refl
 unfoldable pub start-is-the-lowest-block : Given
 start-is-the-lowest-block =
     record {
-      sections = section 1 0x1000 0x18 (0x4E800020 ∷ 0x4E800020 ∷ 0x4182FFFC ∷ 0x48000008 ∷ 0x4E800020 ∷ 0x4E800020 ∷ []) ∷ [];
+      sections = section 1 0x1000 0x18 0x18 ∷ [];
+      bytes = bytes-of (0x4E800020 ∷ 0x4E800020 ∷ 0x4182FFFC ∷ 0x48000008 ∷ 0x4E800020 ∷ 0x4E800020 ∷ []);
       outcomes = does 3 0 ∷ does 3 0 ∷ lists 0 (branch 0 0 0x1004 ∷ branch 0 0 0x100c ∷ []) ∷ jumps 0 0x1014 ∷ does 3 0 ∷ does 3 0 ∷ [];
       functions = symbol 0x1008 0 0 ∷ [];
       objects = [];
@@ -407,7 +429,8 @@ start-is-the-lowest-block-lines = refl
 unfoldable pub prologue-up-to-it : Given
 prologue-up-to-it =
     record {
-      sections = section 1 0x1000 0x14 (0x48000008 ∷ 0x38630001 ∷ 0x9421FFF0 ∷ 0x7C0802A6 ∷ 0x4BFFFFF4 ∷ []) ∷ [];
+      sections = section 1 0x1000 0x14 0x14 ∷ [];
+      bytes = bytes-of (0x48000008 ∷ 0x38630001 ∷ 0x9421FFF0 ∷ 0x7C0802A6 ∷ 0x4BFFFFF4 ∷ []);
       outcomes = jumps 0 0x1008 ∷ does 3 0 ∷ does 0 0 ∷ does 0 0 ∷ jumps 0 0x1004 ∷ [];
       functions = [];
       objects = [];
@@ -430,7 +453,8 @@ prologue-up-to-it-lines = refl
 unfoldable pub tail-call-is : Given
 tail-call-is =
     record {
-      sections = section 1 0x4000 0xc (0x48000008 ∷ 0x00000000 ∷ 0x4E800020 ∷ []) ∷ [];
+      sections = section 1 0x4000 0xc 0xc ∷ [];
+      bytes = bytes-of (0x48000008 ∷ 0x00000000 ∷ 0x4E800020 ∷ []);
       outcomes = jumps 0 0x4008 ∷ does 1 0 ∷ does 3 0 ∷ [];
       functions = [];
       objects = [];
@@ -453,7 +477,8 @@ tail-call-is-lines = refl
 unfoldable pub tail-call-is-not : Given
 tail-call-is-not =
     record {
-      sections = section 1 0x80003000 4 (0x4E800420 ∷ []) ∷ section 2 0x80003004 4 (0x80003000 ∷ []) ∷ [];
+      sections = section 1 0x80003000 4 4 ∷ section 2 0x80003004 4 4 ∷ [];
+      bytes = bytes-of (0x4E800420 ∷ 0x80003000 ∷ []);
       outcomes = uses-table 0 0x80003004 0 ∷ [];
       functions = [];
       objects = [];
@@ -472,7 +497,8 @@ tail-call-is-not-lines = refl
 unfoldable pub tail-call-possible : Given
 tail-call-possible =
     record {
-      sections = section 1 0x4000 8 (0x48000004 ∷ 0x4E800020 ∷ []) ∷ [];
+      sections = section 1 0x4000 8 8 ∷ [];
+      bytes = bytes-of (0x48000004 ∷ 0x4E800020 ∷ []);
       outcomes = jumps 0 0x4004 ∷ does 3 0 ∷ [];
       functions = [];
       objects = [];
@@ -493,7 +519,8 @@ tail-call-possible-lines = refl
 unfoldable pub table-with-size : Given
 table-with-size =
     record {
-      sections = section 1 0x4000 8 (0x80230000 ∷ 0x4E800420 ∷ []) ∷ section 2 0x4008 8 (0x00004004 ∷ 0x00000000 ∷ []) ∷ [];
+      sections = section 1 0x4000 8 8 ∷ section 2 0x4008 8 8 ∷ [];
+      bytes = bytes-of (0x80230000 ∷ 0x4E800420 ∷ 0x00004004 ∷ 0x00000000 ∷ []);
       outcomes = does 0 0 ∷ uses-table 0 0x4008 4 ∷ [];
       functions = [];
       objects = [];
@@ -515,7 +542,8 @@ table-with-size-lines = refl
 unfoldable pub table-without-size : Given
 table-without-size =
     record {
-      sections = section 1 0x80003020 8 (0x2C030000 ∷ 0x7C0802A6 ∷ []) ∷ section 4 0x8000302c 0xa0 [] ∷ section 2 0x80003000 0x10 (0x80003024 ∷ 0x80003020 ∷ 0x80003024 ∷ 0x00000000 ∷ []) ∷ [];
+      sections = section 1 0x80003020 8 8 ∷ section 4 0x8000302c 0xa0 0 ∷ section 2 0x80003000 0x10 0x10 ∷ [];
+      bytes = bytes-of (0x2C030000 ∷ 0x7C0802A6 ∷ 0x80003024 ∷ 0x80003020 ∷ 0x80003024 ∷ 0x00000000 ∷ []);
       outcomes = does 0 0 ∷ uses-table 0 0x80003000 0 ∷ [];
       functions = [];
       objects = [];
@@ -538,7 +566,8 @@ table-without-size-lines = refl
 unfoldable pub skipped-and-set-aside : Given
 skipped-and-set-aside =
     record {
-      sections = section 1 0x80003020 8 (0x38630001 ∷ 0x4E800020 ∷ []) ∷ section 4 0x80003000 0x10 [] ∷ [];
+      sections = section 1 0x80003020 8 8 ∷ section 4 0x80003000 0x10 0 ∷ [];
+      bytes = bytes-of (0x38630001 ∷ 0x4E800020 ∷ []);
       outcomes = does 0 0 ∷ does 3 0 ∷ [];
       functions = symbol 0x80003024 4 1 ∷ [];
       objects = [];
@@ -558,7 +587,8 @@ skipped-and-set-aside-lines = refl
 unfoldable pub open-block : Given
 open-block =
     record {
-      sections = section 1 0x4000 0x40 (0x7C0802A6 ∷ 0xE81F5DB3 ∷ 0x9421FFF0 ∷ 0x38210010 ∷ 0x7C0803A6 ∷ 0x48000004 ∷ 0x148B1A31 ∷ 0x80830008 ∷ 0x4BFFFFE0 ∷ 0x7C0802A6 ∷ 0x90010014 ∷ 0x9421FFF0 ∷ 0x7C0803A6 ∷ 0x2C030000 ∷ 0x38210010 ∷ 0x4BFFFFC8 ∷ []) ∷ [];
+      sections = section 1 0x4000 0x40 0x40 ∷ [];
+      bytes = bytes-of (0x7C0802A6 ∷ 0xE81F5DB3 ∷ 0x9421FFF0 ∷ 0x38210010 ∷ 0x7C0803A6 ∷ 0x48000004 ∷ 0x148B1A31 ∷ 0x80830008 ∷ 0x4BFFFFE0 ∷ 0x7C0802A6 ∷ 0x90010014 ∷ 0x9421FFF0 ∷ 0x7C0803A6 ∷ 0x2C030000 ∷ 0x38210010 ∷ 0x4BFFFFC8 ∷ []);
       outcomes = does 0 0 ∷ does 0 0 ∷ does 0 0 ∷ does 0 0 ∷ does 0 0 ∷ jumps 0 0x4018 ∷ does 0 0 ∷ does 0 0 ∷ jumps 0 0x4000 ∷ does 0 0 ∷ does 0 0 ∷ does 0 0 ∷ does 0 0 ∷ does 0 0 ∷ does 0 0 ∷ jumps 0 0x4004 ∷ [];
       functions = symbol 0x4014 4 0 ∷ [];
       objects = [];
@@ -582,4 +612,3 @@ pub open-block-lines : whole open-block enough ≡
     []
 unfolding whole open-block
 open-block-lines = refl
-

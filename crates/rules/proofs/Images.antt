@@ -9,9 +9,9 @@ abbrev pub bytes-of : List ℕ → List ℕ
 bytes-of [] = []
 bytes-of (w ∷ l) = w / 0x100_0000 ∷ w / 0x1_0000 % 256 ∷ w / 256 % 256 ∷ w % 256 ∷ bytes-of l
 
--- kind, base, size, words
-abbrev pub section : ℕ → ℕ → ℕ → List ℕ → SectionRow
-section k b s l = record { kind = k; base = b; size = s; bytes = bytes-of l }
+-- kind, base, size, bytes handed in
+abbrev pub section : ℕ → ℕ → ℕ → ℕ → SectionRow
+section k b s n = record { kind = k; base = b; size = s; given = n }
 
 -- kind and mark
 abbrev pub does : ℕ → ℕ → OutcomeRow

@@ -4,7 +4,7 @@ use mathlib.Core.Path.{_≡_, refl, sym, _∙_, subst}
 use mathlib.Core.Bool.{Bool, true, false, false≢true, _&&_}
 use mathlib.Core.List.{List, [], _∷_, map}
 use native.Mathlib.Omega.{arith}
-use lib.ListN.{length, getD}
+use lib.ListN.{length, getD, take, drop}
 use lib.Dec.{leb, eqb}
 use borrow.Author.Tests.{leb-true, ltb-true, eqb-true}
 use Rattle.rules.specs.Choice.{if, by-if}
@@ -61,11 +61,11 @@ code-from-low i (s ∷ ss) =
 
 -- what holds of each section holds of the code section, where there is one
 module _ (P : Section → Type 0) where
-  code-holds : (i : ℕ) (l : List SectionRow) → (Check.count-codes l ≡ 0 → ⊥) → All (λ r. P (Given.section-of-row r)) l → P (getD (map Given.section-of-row l) (Image.code-from i (map Given.section-of-row l) - i) Image.no-section)
+  code-holds : (i : ℕ) (l : List SectionRow) (d : List ℕ) → (Check.count-codes l ≡ 0 → ⊥) → All (λ r. (w : List ℕ) → P (Given.section-of-row r w)) l → P (getD (Given.sections-of l d) (Image.code-from i (Given.sections-of l d) - i) Image.no-section)
   unfolding if
-  code-holds i [] n p = absurd (n refl)
-  code-holds i (r ∷ l) n p =
-      by (Image.is-code (Given.kind-of (r .kind))) refl (code-holds (suc i) l)
+  code-holds i [] d n p = absurd (n refl)
+  code-holds i (r ∷ l) d n p =
+      by (Image.is-code (Given.kind-of (r .kind))) refl (code-holds (suc i) l (drop (r .given) d))
     where
       later : Image.is-code (Given.kind-of (r .kind)) ≡ false → Check.count-codes l ≡ 0 → ⊥
       later e z = go (eqb (r .kind) 1) refl
@@ -74,12 +74,12 @@ module _ (P : Section → Type 0) where
           go true q = false≢true (sym e ∙ kind-code (r .kind) q)
           go false q = n (rw q z)
 
-      by : (b : Bool) → Image.is-code (Given.kind-of (r .kind)) ≡ b → ((Check.count-codes l ≡ 0 → ⊥) → All (λ r. P (Given.section-of-row r)) l → P (getD (map Given.section-of-row l) (Image.code-from (suc i) (map Given.section-of-row l) - suc i) Image.no-section)) →
-          P (getD (map Given.section-of-row (r ∷ l)) (if b i (Image.code-from (suc i) (map Given.section-of-row l)) - i) Image.no-section)
-      by true e f = let z : i - i ≡ 0 = omega arith in rw z (p .0)
+      by : (b : Bool) → Image.is-code (Given.kind-of (r .kind)) ≡ b → ((Check.count-codes l ≡ 0 → ⊥) → All (λ r. (w : List ℕ) → P (Given.section-of-row r w)) l → P (getD (Given.sections-of l (drop (r .given) d)) (Image.code-from (suc i) (Given.sections-of l (drop (r .given) d)) - suc i) Image.no-section)) →
+          P (getD (Given.sections-of (r ∷ l) d) (if b i (Image.code-from (suc i) (Given.sections-of l (drop (r .given) d))) - i) Image.no-section)
+      by true e f = let z : i - i ≡ 0 = omega arith in rw z (p .0 (take (r .given) d))
       by false e f =
-          let m : ℕ = Image.code-from (suc i) (map Given.section-of-row l) in
-          let z : m - i ≡ suc (m - suc i) = omega (arith, code-from-low (suc i) (map Given.section-of-row l)) in
+          let m : ℕ = Image.code-from (suc i) (Given.sections-of l (drop (r .given) d)) in
+          let z : m - i ≡ suc (m - suc i) = omega (arith, code-from-low (suc i) (Given.sections-of l (drop (r .given) d))) in
           rw z (f (later e) (p .1))
 
 -- what check 1 says of each section
@@ -88,8 +88,8 @@ record Placed (s : Section) : Type 0 where
   based : s .base % 4 ≡ 0
   fits : s .base + s .size ≤ 0xF000_0000
 
-row-placed : (r : SectionRow) → Check.is-placed r ≡ true → Placed (Given.section-of-row r)
-row-placed r h =
+row-placed : (r : SectionRow) → Check.is-placed r ≡ true → (w : List ℕ) → Placed (Given.section-of-row r w)
+row-placed r h w =
     let a : (is-aligned (r .base) && is-aligned (r .size) && leb 256 (r .base) && leb 4 (r .size)) ≡ true = and-left _ _ h in
     let b : (is-aligned (r .base) && is-aligned (r .size) && leb 256 (r .base)) ≡ true = and-left _ _ a in
     let c : (is-aligned (r .base) && is-aligned (r .size)) ≡ true = and-left _ _ b in
@@ -143,13 +143,14 @@ module _ (g : Given) (p : Passed g) where
   code-placed : Placed (Image.code-section (image-of g))
   unfolding Image.code-section Image.code-number image-of Check.check-image
   code-placed =
-      let a = and-left _ _ (p .image) in
+      let z = and-left _ _ (p .image) in
+      let a = and-left _ _ z in
       let b = and-left _ _ a in
       let c = and-left _ _ b in
       let d = and-left _ _ c in
       let e = and-left _ _ d in
       let one : Check.count-codes (g .sections) ≡ 1 = eqb-true _ _ (and-right (Check.few-sections (g .sections)) _ e) in
-      code-holds Placed 1 (g .sections) (λ z. omega arith)
+      code-holds Placed 1 (g .sections) (g .bytes) (λ z. omega arith)
       (all-map (g .sections) (λ r q. row-placed r q) (all-true Check.is-placed (g .sections) (and-right (Check.few-sections (g .sections) && Check.one-code (g .sections) && Check.all Check.is-kind (g .sections)) _ c)))
 
   sound : Sound (image-of g)

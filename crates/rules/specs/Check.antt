@@ -62,12 +62,20 @@ code-fits r = not (is-code-row r) || leb (r .size) 262144
 
 -- "Bss has no bytes; every other section has all of its bytes"
 abbrev pub has-bytes : SectionRow → Bool
-has-bytes r = eqb (length (r .bytes)) (if (eqb (r .kind) 4) 0 (r .size))
+has-bytes r = eqb (r .given) (if (eqb (r .kind) 4) 0 (r .size))
+
+-- and no byte is handed in besides
+abbrev pub count-bytes : List SectionRow → ℕ
+count-bytes [] = 0
+count-bytes (r ∷ l) = r .given + count-bytes l
+
+abbrev pub bytes-add-up : Given → Bool
+bytes-add-up g = eqb (length (g .bytes)) (count-bytes (g .sections))
 
 unfoldable pub check-image : Given → Bool
 check-image g =
     few-sections (g .sections) && one-code (g .sections) && all is-kind (g .sections) && all is-placed (g .sections) &&
-    none-overlap (g .sections) && all code-fits (g .sections) && all has-bytes (g .sections)
+    none-overlap (g .sections) && all code-fits (g .sections) && all has-bytes (g .sections) && bytes-add-up g
 
 -- ---- 2: the outcomes
 

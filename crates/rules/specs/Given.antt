@@ -1,8 +1,8 @@
 -- What is handed in, as numbers, and the image that it stands for. Nothing is checked here.
-use Prim.Native.Nat.{ℕ, _+_}
-use mathlib.Core.Bool.{Bool}
+use Prim.Native.Nat.{ℕ}
 use mathlib.Core.List.{List, [], _∷_, map}
 use lib.Dec.{eqb}
+use lib.ListN.{take, drop}
 use Rattle.rules.specs.Choice.{if}
 use Rattle.rules.specs.Address.{key}
 use Rattle.rules.specs.Bytes.{words-in}
@@ -13,7 +13,8 @@ pub record SectionRow : Type 0 where
   pub kind : ℕ
   pub base : ℕ
   pub size : ℕ
-  pub bytes : List ℕ
+  -- how many bytes of it are handed in
+  pub given : ℕ
 
 pub record BranchRow : Type 0 where
   -- 0 or 1
@@ -41,6 +42,8 @@ pub record SymbolRow : Type 0 where
 
 pub record Given : Type 0 where
   pub sections : List SectionRow
+  -- of all sections, in order
+  pub bytes : List ℕ
   -- of the code section's words, in order
   pub outcomes : List OutcomeRow
   pub functions : List SymbolRow
@@ -54,8 +57,13 @@ pub record Given : Type 0 where
 abbrev pub kind-of : ℕ → Kind
 kind-of k = if (eqb k 1) code (if (eqb k 2) written (if (eqb k 3) read-only bss))
 
-abbrev pub section-of-row : SectionRow → Section
-section-of-row r = record { kind = kind-of (r .kind); base = r .base; size = r .size; words = words-in (r .bytes) }
+abbrev pub section-of-row : SectionRow → List ℕ → Section
+section-of-row r l = record { kind = kind-of (r .kind); base = r .base; size = r .size; words = words-in l }
+
+-- each section with its part of the bytes
+abbrev pub sections-of : List SectionRow → List ℕ → List Section
+sections-of [] l = []
+sections-of (r ∷ rs) l = section-of-row r (take (r .given) l) ∷ sections-of rs (drop (r .given) l)
 
 abbrev pub to-of : ℕ → ℕ → To
 to-of t a = if (eqb t 0) (to-address a) (if (eqb t 1) (to-table a) elsewhere)
@@ -86,10 +94,10 @@ entry-of n (a ∷ l) = key n a
 unfoldable pub image-of : Given → Image
 image-of g =
     record {
-      sections = map section-of-row (g .sections);
+      sections = sections-of (g .sections) (g .bytes);
       told = map told-of (g .outcomes);
       functions = map symbol-of (g .functions);
       objects = map symbol-of (g .objects);
       skips = g .skips;
-      entry = entry-of (code-from 1 (map section-of-row (g .sections))) (g .entries);
+      entry = entry-of (code-from 1 (sections-of (g .sections) (g .bytes))) (g .entries);
     }
