@@ -12,9 +12,11 @@ pub record Block : Type 0 where
   pub start : ℕ
   pub end : ℕ
 
+-- a block by its two addresses
 abbrev pub block : ℕ → ℕ → Block
 block s e = record { start = s; end = e }
 
+-- blocks are told apart by their starts
 abbrev pub startOf : Block → ℕ
 startOf b = b .start
 
@@ -50,6 +52,7 @@ last-start bs = last (block 0 0) bs .start
 unfoldable pub last-end : List Block → ℕ
 last-end bs = last (block 0 0) bs .end
 
+-- "A block with an end is closed"
 abbrev pub is-open : Block → Bool
 is-open b = eqb (b .end) 0
 
@@ -65,6 +68,7 @@ first-disconnected-block (a ∷ b ∷ bs) = let r : Block = first-disconnected-b
 
 -- ---- one table to be marked, handed in
 
+-- a multiple of 4
 abbrev pub is-aligned : ℕ → Bool
 is-aligned a = eqb (a % 4) 0
 

@@ -5,6 +5,7 @@ use lib.Dec.{leb}
 use lib.ListN.{drop}
 use Rattle.rules.specs.Choice.{if}
 
+-- "A word is 32 bits, big-endian"
 abbrev pub word-of : ℕ → ℕ → ℕ → ℕ → ℕ
 word-of a b c d = ((a * 256 + b) * 256 + c) * 256 + d
 

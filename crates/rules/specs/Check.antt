@@ -24,9 +24,11 @@ chained p (x ∷ y ∷ l) = p x y && chained p (y ∷ l)
 
 -- ---- 1: the sections
 
+-- a section of code
 abbrev pub is-code-row : SectionRow → Bool
 is-code-row r = eqb (r .kind) 1
 
+-- how many sections are of code
 abbrev pub count-codes : List SectionRow → ℕ
 count-codes [] = 0
 count-codes (r ∷ l) = if (is-code-row r) (suc (count-codes l)) (count-codes l)
@@ -52,6 +54,7 @@ is-placed r =
 abbrev pub are-apart : SectionRow → SectionRow → Bool
 are-apart r s = leb (r .base + r .size) (s .base) || leb (s .base + s .size) (r .base)
 
+-- the same of each and all later ones
 abbrev pub none-overlap : List SectionRow → Bool
 none-overlap [] = true
 none-overlap (r ∷ l) = all (are-apart r) l && none-overlap l
@@ -69,9 +72,11 @@ abbrev pub count-bytes : List SectionRow → ℕ
 count-bytes [] = 0
 count-bytes (r ∷ l) = r .given + count-bytes l
 
+-- the bytes are those of the sections
 abbrev pub bytes-add-up : Given → Bool
 bytes-add-up g = eqb (length (g .bytes)) (count-bytes (g .sections))
 
+-- number 1: "the image breaks a rule"
 unfoldable pub check-image : Given → Bool
 check-image g =
     few-sections (g .sections) && one-code (g .sections) && all is-kind (g .sections) && all is-placed (g .sections) &&
@@ -96,6 +101,7 @@ module _ (im : Image) where
       (eqb (r .address) 0 && eqb (r .size) 0 &&
       if (eqb (r .kind) 6) (leb (length (r .branches)) 2 && all is-branch-row (r .branches)) (eqb (length (r .branches)) 0)))
 
+  -- one outcome
   abbrev pub is-outcome : OutcomeRow → Bool
   is-outcome r = leb (r .kind) 6 && leb (r .mark) 1 && fits-kind r
 
@@ -145,9 +151,11 @@ module _ (im : Image) where
   abbrev pub is-entry : ℕ → Bool
   is-entry a = is-aligned a && Image.contains (Image.code-section im) a
 
+  -- at most one
   abbrev pub are-entries : List ℕ → Bool
   are-entries l = leb (length l) 1 && all is-entry l
 
+  -- number 3: "a symbol, skip range, entry or lent list breaks a rule"
   unfoldable pub check-rest : Given → Bool
   check-rest g =
       are-symbols is-function-symbol (g .functions) && are-symbols is-object-symbol (g .objects) && are-skips (g .skips) &&

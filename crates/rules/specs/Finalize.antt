@@ -16,9 +16,11 @@ use Rattle.rules.specs.Slices.{Slices, Ways, set-block, with-returns, wi
 use Rattle.rules.specs.Known.{Entry, entryOf}
 
 module _ (im : Image) where
+  -- the function's last word
   unfoldable pub last-word : Slices → ℕ
   last-word s = Image.word im (address-of (last-end (s .blocks)) - 4)
 
+  -- the word behind its end
   unfoldable pub word-after : Slices → ℕ
   word-after s = Image.word im (address-of (last-end (s .blocks)))
 
@@ -32,6 +34,7 @@ module _ (im : Image) where
   abbrev pub branches-to : ℕ → Ways → Bool
   branches-to k v = ltb 1 (length (v .targets)) && any (eqb k) (v .targets)
 
+  -- a conditional `blr`, or the end that a call gives to two ways on
   unfoldable pub is-conditional : Slices → Bool
   is-conditional s =
       s .conditional-blr || (ends-in-call s && any (branches-to (last-start (s .blocks))) (s .ways))
@@ -46,13 +49,16 @@ module _ (im : Image) where
       if (has-last s && not (has entryOf (last-end (s .blocks)) es))
       (set-block (last-end (s .blocks)) (last-end (s .blocks) + 4) s) (ok s)
 
+  -- the last word is added, and the function is finalized
   unfoldable pub finalize-end : List Entry → Slices → Answer Slices
   finalize-end es s = add-last es s >>= λ t. ok (with-finalized t)
 
+  -- "at finalizing: the last block is open" (13)
   unfoldable pub finalize-closed : List Entry → Slices → Answer Slices
   finalize-closed es s =
       if (eqb (last-end (s .blocks)) 0) (fault 13) (finalize-end es (with-returns s (is-conditional s) (s .rfi)))
 
+  -- "a finalized one comes to be finalized again" (17); "epilogue, no prologue, no load of r1" (12)
   unfoldable pub finalize : List Entry → Slices → Answer Slices
   finalize es s =
       if (s .finalized) (fault 17)

@@ -11,6 +11,7 @@ use Rattle.rules.specs.Blocks.{Block}
 use Rattle.rules.specs.Slices.{Slices, Ways, Table}
 use Rattle.rules.specs.Known.{Entry, is-function}
 
+-- a line without its newline
 abbrev pub Line : Type 0
 Line = List ℕ
 
@@ -31,6 +32,7 @@ address k = hex 8 (address-of k)
 abbrev pub address-or-dash : ℕ → Line
 address-or-dash k = if (eqb k 0) (bytes "-") (address k)
 
+-- 1 or 0
 abbrev pub flag : Bool → ℕ
 flag b = if b 49 48
 
@@ -54,6 +56,7 @@ abbrev pub lines-from : ℕ → List ℕ → List Line
 lines-from k [] = []
 lines-from k (t ∷ l) = (bytes "C " ++ address k ++ bytes " " ++ address t) ∷ lines-from k l
 
+-- "C by from, its targets in the order of the Rust's list"
 abbrev pub lines-C : List Ways → List Line
 lines-C [] = []
 lines-C (w ∷ l) = lines-from (w .from) (w .targets) ++ lines-C l

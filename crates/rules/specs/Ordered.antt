@@ -77,6 +77,7 @@ abbrev pub first : {A : Type 0} → A → List A → A
 first d [] = d
 first d (x ∷ l) = x
 
+-- whether there is no row
 abbrev pub empty : {A : Type 0} → List A → Bool
 empty [] = true
 empty (x ∷ l) = false

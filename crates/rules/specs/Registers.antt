@@ -23,6 +23,7 @@ pub record Row : Type 0 where
   pub opcode : ℕ
   pub fields : List Field
 
+-- a row
 abbrev pub row : ℕ → List Field → Row
 row x l = record { opcode = x; fields = l }
 
@@ -191,6 +192,7 @@ abbrev pub fields-in : List Row → ℕ → List Field
 fields-in [] x = []
 fields-in (r ∷ rs) x = let more : List Field = fields-in rs x in if (eqb (r .opcode) x) (r .fields) more
 
+-- all rows under 31
 unfoldable pub extended-rows : List Row
 extended-rows = with-bit-21 arithmetic-table ++ extended-table
 
@@ -205,6 +207,7 @@ register rA w = field-a w ∷ []
 register rA-or-0 w = if (eqb (field-a w) 0) [] (field-a w ∷ [])
 register rB w = field-b w ∷ []
 
+-- of several fields
 abbrev pub registers : List Field → ℕ → List ℕ
 registers [] w = []
 registers (f ∷ fs) w = register f w ++ registers fs w
@@ -213,5 +216,6 @@ registers (f ∷ fs) w = register f w ++ registers fs w
 unfoldable pub registers-named : ℕ → List ℕ
 registers-named w = registers (fields-named w) w
 
+-- "a word that reads or writes r0 or r1"
 unfoldable pub names-r0-or-r1 : ℕ → Bool
 names-r0-or-r1 w = any (λ r. leb r 1) (registers-named w)

@@ -7,6 +7,7 @@ use Rattle.rules.specs.Choice.{if}
 use Rattle.rules.specs.Words.{is-branch, is-mflr, is-mtlr, is-stwu, is-stw, is-addi, is-or}
 use Rattle.rules.specs.Registers.{names-r0-or-r1}
 
+-- "A scan stops at a branch [..], at a word that reads or writes r0 or r1"
 unfoldable pub is-end-of-seq : ℕ → Bool
 is-end-of-seq w = is-branch w || names-r0-or-r1 w
 
@@ -30,21 +31,25 @@ abbrev pub check-sequence : List Pair → List ℕ → Bool
 check-sequence [] ws = false
 check-sequence (p ∷ ps) ws = is-pair (p .first) (p .second) ws || check-sequence ps ws
 
+-- "`stwu`/`stwux` of r1 on r1, then `mflr r0`; `mflr r0`, then `stw r0` on r1; `mflr r0`, then that `stwu`"
 unfoldable pub prologue-pairs : List Pair
 prologue-pairs =
     record { first = is-stwu; second = is-mflr } ∷
     record { first = is-mflr; second = is-stw } ∷
     record { first = is-mflr; second = is-stwu } ∷ []
 
+-- "`mtlr r0`, `addi r1,r1`; `mtlr r0`, `or`; `or`, `mtlr r0`"
 unfoldable pub epilogue-pairs : List Pair
 epilogue-pairs =
     record { first = is-mtlr; second = is-addi } ∷
     record { first = is-mtlr; second = is-or } ∷
     record { first = is-or; second = is-mtlr } ∷ []
 
+-- the words begin with a prologue
 unfoldable pub check-prologue-sequence : List ℕ → Bool
 check-prologue-sequence ws = check-sequence prologue-pairs ws
 
+-- the words begin with an epilogue
 unfoldable pub check-epilogue-sequence : List ℕ → Bool
 check-epilogue-sequence ws = check-sequence epilogue-pairs ws
 

@@ -31,6 +31,7 @@ pub data Place : Type 0 where
   -- it met no function
   nowhere : Place
 
+-- the state of a walk
 pub record Walk : Type 0 where
   pub slices : Slices
   -- by the number of the code word
@@ -59,6 +60,7 @@ abbrev pub insert : ℕ → List ℕ → List ℕ
 insert k [] = k ∷ []
 insert k (x ∷ l) = if (leb x k) (k ∷ x ∷ l) (x ∷ insert k l)
 
+-- "Pending addresses are sorted at each push"; "256 pending addresses"
 unfoldable pub push : ℕ → Walk → Answer Walk
 push k w = limited 256 (insert k (w .pending)) >>= λ p. ok (with-pending w p)
 
@@ -68,21 +70,26 @@ seen im k w = Image.in-code im k && w .visited (Image.index im k)
 
 -- ---- sequences
 
+-- "a second prologue, and it lies below the recorded one or a terminator stands between" (5)
 unfoldable pub second-prologue : Image → ℕ → Slices → Answer Slices
 second-prologue im k s =
     if (ltb k (s .prologue) || any is-function-terminator (Image.words-between im (s .prologue + 4) k)) (fault 5) (ok s)
 
+-- the first is recorded
 unfoldable pub meet-prologue : Image → ℕ → Slices → Answer Slices
 meet-prologue im k s = if (eqb (s .prologue) 0) (ok (with-prologue s k)) (second-prologue im k s)
 
+-- "A load `lwz r1` only sets its flag"
 unfoldable pub check-prologue : Image → ℕ → Slices → Answer Slices
 check-prologue im k s =
     if (is-lwz (Image.word im (address-of k))) (ok (with-r1-load s))
     (if (check-prologue-sequence (Image.words-from im k)) (meet-prologue im k s) (ok s))
 
+-- "an epilogue at another address than the recorded one" (6)
 unfoldable pub meet-epilogue : ℕ → Slices → Answer Slices
 meet-epilogue k s = if (eqb (s .epilogue) 0) (ok (with-epilogue s k)) (if (eqb (s .epilogue) k) (ok s) (fault 6))
 
+-- the first is recorded
 unfoldable pub check-epilogue : Image → ℕ → Slices → Answer Slices
 check-epilogue im k s = if (check-epilogue-sequence (Image.words-from im k)) (meet-epilogue k s) (ok s)
 
@@ -99,11 +106,13 @@ note-word im k s =
 
 -- ---- outcomes
 
+-- a new block start is to be walked
 unfoldable pub mark-and-push : ℕ → Walk → Answer Walk
 mark-and-push k w =
     add-block-start k (w .slices) >>= λ s.
     if (is-new k (w .slices .blocks)) (push k (with-slices w s)) (ok (with-slices w s))
 
+-- each of them
 abbrev pub mark-and-push-all : List ℕ → Walk → Answer Walk
 mark-and-push-all [] w = ok w
 mark-and-push-all (k ∷ ks) w = mark-and-push k w >>= λ v. mark-and-push-all ks v
@@ -112,6 +121,7 @@ mark-and-push-all (k ∷ ks) w = mark-and-push k w >>= λ v. mark-and-push-all k
 unfoldable pub end-block : ℕ → ℕ → Walk → Answer Walk
 end-block k b w = set-block b (k + 4) (w .slices) >>= λ s. ok (with-place (with-slices w s) idle)
 
+-- the walk goes on to the next word
 unfoldable pub walk-on : ℕ → ℕ → Walk → Walk
 walk-on k b w = with-place w (at (k + 4) b)
 
@@ -128,13 +138,16 @@ module _ (e : Around) where
   unfoldable pub is-met : ℕ → Walk → Bool
   is-met k w = seen (e .image) k w || has startOf k (w .slices .blocks)
 
+  -- "the block ends before a word already visited or a block start"
   unfoldable pub do-go-on : ℕ → ℕ → Walk → Answer Walk
   do-go-on k b w =
       if (is-met (k + 4) w) (end-block k b w >>= λ v. on-slices (set-ways k ((k + 4) ∷ [])) v) (ok (walk-on k b w))
 
+  -- "After a nonzero illegal word the walk goes on without that test; a zero one ends it with 'no function'"
   unfoldable pub do-illegal : ℕ → ℕ → Walk → Answer Walk
   do-illegal k b w = if (eqb (Image.word (e .image) (address-of k)) 0) (ok (with-place w nowhere)) (ok (walk-on k b w))
 
+  -- between prologue and epilogue an unknown jump goes on to the next word
   unfoldable pub do-unknown : ℕ → Walk → Answer Walk
   do-unknown k w =
       if (not (eqb (w .slices .prologue) 0) && eqb (w .slices .epilogue) 0)
@@ -148,6 +161,7 @@ module _ (e : Around) where
   unfoldable pub go-to : ℕ → Walk → Walk
   go-to t w = if (seen (e .image) t w) w (with-place w (at t t))
 
+  -- a block of the function starts at the target
   unfoldable pub jump-inside : ℕ → Walk → Answer Walk
   jump-inside t w =
       add-block-start t (w .slices) >>= λ s.
@@ -160,9 +174,11 @@ module _ (e : Around) where
       (if (not (eqb (section-of t) (section-of k)) || eqb (Image.word (e .image) (address-of k)) 0) (add-reference t s) (add-possible t s))
       (if (eqb (known-function t s) (e .start)) (fault 8) (add-reference (known-function t s) s))
 
+  -- a jump to another word
   unfoldable pub do-jump-elsewhere : ℕ → ℕ → Walk → Answer Walk
   do-jump-elsewhere k t w = if (jumps-inside k t (w .slices)) (jump-inside t w) (on-slices (jump-outside k t) w)
 
+  -- a jump to its own word ends the walk of it
   unfoldable pub do-jump : ℕ → ℕ → Walk → Answer Walk
   do-jump k t w = on-slices (set-ways k (t ∷ [])) w >>= λ v. if (eqb t k) (ok v) (do-jump-elsewhere k t v)
 
@@ -174,15 +190,18 @@ module _ (e : Around) where
   unfoldable pub table-inside : ℕ → List ℕ → Slices → Bool
   table-inside k l s = any (λ t. ltb (e .start) t && (leb t (last-start (s .blocks)) || leb t (k + 4))) l
 
+  -- an entry among the blocks, and none in another known function
   unfoldable pub is-own-table : ℕ → List ℕ → Slices → Bool
   is-own-table k l s = table-inside k l s && not (any (is-known-function s) l)
 
+  -- the entries are blocks of the function
   unfoldable pub do-own-table : ℕ → ℕ → Entries → Walk → Answer Walk
   do-own-table k t r w =
       on-slices (set-table t (r .size)) w >>= λ v.
       mark-and-push-all (r .taken) v >>= λ u.
       on-slices (set-ways k (r .taken)) u
 
+  -- otherwise they are possible blocks
   unfoldable pub do-table : ℕ → ℕ → ℕ → Walk → Answer Walk
   do-table k t n w =
       jump-table-entries (e .image) t n (e .start) (known-end (w .slices)) >>= λ r.
@@ -194,6 +213,7 @@ module _ (e : Around) where
   lower-symbol a d past (f ∷ fs) =
       if (ltb (f .address) a) (lower-symbol a (key (Image.code-number (e .image)) (f .address)) (f .address + f .size) fs) (if (ltb a past) d 0)
 
+  -- of an address in code
   unfoldable pub symbol-over : ℕ → ℕ
   symbol-over t = if (eqb (section-of t) (Image.code-number (e .image))) (lower-symbol (address-of t) 0 0 (e .image .functions)) 0
 
@@ -212,18 +232,22 @@ module _ (e : Around) where
       (mark-and-push t w >>= λ v. ok (v, out ++ (t ∷ [])))
       (on-slices (add-reference (refers-to link t (w .slices))) w >>= λ v. ok (v, out))
 
+  -- "a branch list names a jump table" (7)
   abbrev pub branch-to : Bool → To → Walk → List ℕ → Answer (Walk × List ℕ)
   branch-to link (to-address a) w out = do-branch link (Image.locate (e .image) a) w out
   branch-to link (to-table a) w out = fault 7
   branch-to link elsewhere w out = ok (w, out)
 
+  -- one after the other
   abbrev pub branch-each : List Branch → Walk → List ℕ → Answer (Walk × List ℕ)
   branch-each [] w out = ok (w, out)
   branch-each (b ∷ bs) w out = branch-to (b .link) (b .to) w out >>= λ r. branch-each bs (r .0) (r .1)
 
+  -- the ways on, where there are any
   unfoldable pub do-branches : ℕ → List Branch → Walk → Answer Walk
   do-branches k bs w = branch-each bs w [] >>= λ r. if (empty (r .1)) (ok (r .0)) (on-slices (set-ways k (r .1)) (r .0))
 
+  -- each outcome but go on and illegal ends the block
   unfoldable pub do-outcome : ℕ → ℕ → Outcome → Walk → Answer Walk
   do-outcome k b go-on w = do-go-on k b w
   do-outcome k b illegal w = do-illegal k b w
@@ -233,10 +257,12 @@ module _ (e : Around) where
   do-outcome k b (jump-table a n) w = end-block k b w >>= λ v. do-table k (Image.locate (e .image) a) n v
   do-outcome k b (branches l) w = end-block k b w >>= λ v. do-branches k l v
 
+  -- "Entering a word of another known function also ends it so, after the sequence tests, before any outcome"
   unfoldable pub do-word : ℕ → ℕ → Walk → Answer Walk
   do-word k b w =
       if (is-known-function (w .slices) k) (ok (with-place w nowhere)) (do-outcome k b (Image.told-at (e .image) k .outcome) w)
 
+  -- FunctionSlices::instruction_callback
   unfoldable pub instruction-callback : ℕ → ℕ → Walk → Answer Walk
   instruction-callback k b w =
       check-sequences (e .image) k (w .slices) >>= λ s. do-word k b (with-slices w (note-word (e .image) k s))

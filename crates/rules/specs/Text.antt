@@ -5,6 +5,7 @@ use Prim.Native.Char.{code}
 use mathlib.Core.List as Lists
 use mathlib.Core.List.{List}
 
+-- each character is one byte, for texts of ASCII
 abbrev pub bytes : String → List ℕ
 bytes [] = Lists.[]
 bytes (c ∷ s) = Lists._∷_ (code c) (bytes s)

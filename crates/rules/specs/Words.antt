@@ -36,21 +36,27 @@ field-bo = field 21 5
 unfoldable pub field-spr : ℕ → ℕ
 field-spr w = 32 * field 11 5 w + field 16 5 w
 
+-- "`blr` is 0x4E800020"
 abbrev pub blr : ℕ
 blr = 0x4E80_0020
 
+-- "`nop` 0x60000000"
 abbrev pub nop : ℕ
 nop = 0x6000_0000
 
+-- that word alone
 unfoldable pub is-blr : ℕ → Bool
 is-blr w = eqb w blr
 
+-- that word alone
 unfoldable pub is-nop : ℕ → Bool
 is-nop w = eqb w nop
 
+-- by primary opcode
 abbrev pub is-op : ℕ → ℕ → Bool
 is-op p w = eqb (primary w) p
 
+-- by primary and extended opcode
 abbrev pub is-ext : ℕ → ℕ → ℕ → Bool
 is-ext p x w = eqb (primary w) p && eqb (extended w) x
 
@@ -62,6 +68,7 @@ is-branch w = is-op 16 w || is-op 18 w || is-ext 19 16 w || is-ext 19 528 w
 unfoldable pub is-conditional-blr : ℕ → Bool
 is-conditional-blr w = is-ext 19 16 w && not (eqb (field 2 1 (field-bo w)) 1 && eqb (field 4 1 (field-bo w)) 1)
 
+-- rfi
 unfoldable pub is-rfi : ℕ → Bool
 is-rfi = is-ext 19 50
 
