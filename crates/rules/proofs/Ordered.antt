@@ -1,6 +1,6 @@
 -- The laws of `specs/Ordered.antt`: each operation by its place. Over rows of any type.
 use mathlib.Core.Path.{_≡_, refl, sym, ap, _∙_}
-use mathlib.Core.List.{List, [], _∷_, _++_}
+use mathlib.Core.List.{List, [], _∷_, _++_, map}
 use mathlib.Core.Bool.{Bool, true, false}
 use Prim.Native.Nat.{ℕ, zero, suc, _+_, _<_, _≤_, zero-le, suc-le-suc}
 use native.Mathlib.Nat.{le-of-suc-le-suc, not-suc-le-zero, le-refl, eq-or-lt-of-le}
@@ -224,3 +224,29 @@ module _ {A : Type 0} where
   getD-remove-at d zero k (x ∷ l) h = refl
   getD-remove-at d (suc i) zero (x ∷ l) h = absurd (not-suc-le-zero h)
   getD-remove-at d (suc i) (suc k) (x ∷ l) h = getD-remove-at d i k l (le-of-suc-le-suc h)
+
+-- a table by the list of its keys
+module _ {A : Type 0} (key : A → ℕ) where
+  pub rank-keys : (q : ℕ) (l : List A) → rank key q l ≡ rank self q (map key l)
+  rank-keys q [] = refl
+  rank-keys q (x ∷ l) = ap (λ (r : ℕ). if (ltb (key x) q) (suc r) 0) (rank-keys q l)
+
+  pub has-keys : (q : ℕ) (l : List A) → has key q l ≡ has self q (map key l)
+  has-keys q [] = refl
+  has-keys q (x ∷ l) = ap (λ (r : Bool). if (ltb (key x) q) r (eqb (key x) q)) (has-keys q l)
+
+  above-keys : (k : ℕ) (l : List A) → Above key k l → Above self k (map key l)
+  above-keys k [] a = tt
+  above-keys k (x ∷ l) a = a
+
+  keys-above : (k : ℕ) (l : List A) → Above self k (map key l) → Above key k l
+  keys-above k [] a = tt
+  keys-above k (x ∷ l) a = a
+
+  pub rising-keys : (l : List A) → Rising key l → Rising self (map key l)
+  rising-keys [] r = tt
+  rising-keys (x ∷ l) r = (above-keys (key x) l (r .0), rising-keys l (r .1))
+
+  pub keys-rising : (l : List A) → Rising self (map key l) → Rising key l
+  keys-rising [] r = tt
+  keys-rising (x ∷ l) r = (keys-above (key x) l (r .0), keys-rising l (r .1))
