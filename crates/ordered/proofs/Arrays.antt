@@ -1,7 +1,7 @@
 -- The place of a key among the first n elements of an array that rise there, and what halving keeps.
-use mathlib.Core.Path.{_≡_, refl, sym, ap, _∙_}
+use mathlib.Core.Path.{_≡_, sym, _∙_}
 use mathlib.Core.List.{List}
-use mathlib.Core.Bool.{Bool, true, false}
+use mathlib.Core.Bool.{false}
 use Prim.Native.Nat.{ℕ, _+_, _<_, _≤_}
 use native.Mathlib.Nat.{le-refl, eq-or-lt-of-le}
 use mathlib.Core.Logic.{⊎-elim}

@@ -2,19 +2,17 @@
 use mathlib.Core.Path.{_≡_, refl, sym, ap, _∙_}
 use mathlib.Core.List.{List, _∷_}
 use mathlib.Core.Bool.{Bool, true, false}
-use Prim.Native.Nat.{ℕ, zero, suc, _+_, _-_, _<_, _≤_}
+use Prim.Native.Nat.{ℕ, suc, _+_, _-_, _<_, _≤_}
 use native.Mathlib.Numerals.{add-one}
 use native.Mathlib.Omega.{arith}
-use lib.ListN.{length, take, drop, getD, set, length-set}
+use lib.ListN.{length, take, drop, set, length-set}
 use lib.Seq.{length-take-le, take-set-lt, drop-set-lt}
 use borrow.Author.Tests.{le-ltb, lt-ltb}
 use Rattle.rules.specs.Choice.{if, if-true, if-false}
-use Rattle.rules.specs.Ordered.{self, rank, has, put, without, lower, insert-at, remove-at}
+use Rattle.rules.specs.Ordered.{self, rank, has, put, without, insert-at, remove-at}
 use Rattle.rules.proofs.Ordered.{rank-le, has-below, put-held, put-new, length-insert-at, lower-is, without-is, without-not}
 use Rattle.ordered.specs.Part.{Changed, Inserted, Replaced, Removed, IsFound, IsNearest, IsInserted, IsRemoved}
 use Rattle.ordered.specs.declared.Found.{Found}
-use Rattle.ordered.specs.declared.Nearest.{Nearest}
-use Rattle.ordered.specs.declared.Insertion.{Insertion}
 
 -- an array that stays
 pub unchanged : (xs : List ℕ) (n : ℕ) → n ≤ length xs → Changed xs xs n (take n xs) (drop n xs)

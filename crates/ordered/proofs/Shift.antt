@@ -1,10 +1,10 @@
 -- A loop that moves the elements from i up to n up by one, from the top down.
-use mathlib.Core.Path.{_≡_, refl, sym, ap, ap₂, _∙_, subst}
+use mathlib.Core.Path.{_≡_, refl, sym, ap, ap₂, _∙_}
 use mathlib.Core.List.{List, [], _∷_, _++_, append-assoc}
-use Prim.Native.Nat.{ℕ, zero, suc, _+_, _-_, _<_, _≤_, min}
+use Prim.Native.Nat.{ℕ, suc, _+_, _<_, _≤_}
 use native.Mathlib.Omega.{arith}
 use native.Mathlib.Numerals.{add-one}
-use lib.ListN.{length, take, drop, getD, set, length-set, length-take}
+use lib.ListN.{length, take, drop, getD, set, length-set}
 use lib.Seq.{drop-cons, drop-set-lt, drop-drop, getD-drop, take-suc-set, take-all, getD-set-same, slice, slice-empty, slice-cons, set-split, take-set-le, take-take, take-suc, append-snoc, set-at, getD-take, length-take-le, take-at, drop-at}
 use Rattle.rules.specs.Ordered.{insert-at, remove-at}
 use Rattle.ordered.specs.Part.{Inserted, Removed}

@@ -1,6 +1,6 @@
 // The operations on the first n elements of a slice that every ascending table is made of.
 ghost use mathlib.Core.Path.{_≡_};
-ghost use Prim.Native.Nat.{ℕ, _+_, _<_, _≤_};
+ghost use Prim.Native.Nat.{_+_, _<_, _≤_};
 ghost use lib.ListN.{length, take};
 ghost use Rattle.rules.specs.Ordered.{self, rank, Rising};
 ghost use Rattle.ordered.specs.Part.{Inserted, Replaced, Removed, IsFound, IsNearest, IsInserted, IsRemoved};
