@@ -123,10 +123,8 @@ pub fn add_block_start(ss: &mut [u64], es: &mut [u64], n: usize, room: usize, ad
     if has_room(f, n, room) {
         if addr < end {
             let count = cut_at(ss, es, n, f, addr, end);
-            return Step {
-                count,
-                added: Added::No,
-            };
+            let added = Added::No;
+            return Step { count, added };
         }
         if f.hit {
             return Step {
