@@ -25,3 +25,4 @@ pub mod Runs
 pub mod Whole
 pub mod Images
 pub mod Examples
+pub mod Blocks

@@ -1,16 +1,16 @@
 -- The laws of `specs/Ordered.antt`: each operation by its place. Over rows of any type.
 use mathlib.Core.Path.{_≡_, refl, sym, ap, _∙_}
-use mathlib.Core.List.{List, [], _∷_, _++_}
+use mathlib.Core.List.{List, [], _∷_, _++_, map}
 use mathlib.Core.Bool.{Bool, true, false}
 use Prim.Native.Nat.{ℕ, zero, suc, _<_, _≤_, zero-le, suc-le-suc}
 use native.Mathlib.Nat.{le-of-suc-le-suc, not-suc-le-zero}
 use native.Mathlib.Omega.{arith}
 use lib.Dec.{ltb, eqb}
-use lib.ListN.{length, take, drop, getD, set}
+use lib.ListN.{length, take, drop, getD, set, length-set}
 use lib.Seq.{set-getD}
 use borrow.Author.Tests.{lt-ltb, le-ltb, ltb-true, ltb-false, eqb-true, eqb-false, eq-eqb}
 use Rattle.rules.specs.Choice.{if}
-use Rattle.rules.specs.Ordered.{self, insert-at, remove-at, without, rank, has, put, lower, Above, Rising}
+use Rattle.rules.specs.Ordered.{self, insert-at, remove-at, without, rank, has, put, lower, Above, Rising, first, last}
 
 module _ {A : Type 0} where
   pub insert-at-split : (i : ℕ) (v : A) (l : List A) → insert-at i v l ≡ take i l ++ (v ∷ drop i l)
@@ -199,6 +199,21 @@ module _ {A : Type 0} (key : A → ℕ) where
       go false true ih = r .1
       go false false ih = (r .0, r .1)
 
+-- how long a table is after a row is put in
+module _ {A : Type 0} (key : A → ℕ) (a : A) (l : List A) where
+  pub length-put-new : has key (key a) l ≡ false → length (put key a l) ≡ suc (length l)
+  length-put-new h = ap length (put-new key a l h) ∙ length-insert-at (rank key (key a) l) a l
+
+  pub length-put-old : has key (key a) l ≡ true → length (put key a l) ≡ length l
+  length-put-old h = ap length (put-old key a l h) ∙ length-set l (rank key (key a) l) a
+
+  pub length-put-le : length l ≤ length (put key a l)
+  length-put-le = go (has key (key a) l) refl
+    where
+      go : (b : Bool) → has key (key a) l ≡ b → length l ≤ length (put key a l)
+      go true h = omega (arith, length-put-old h)
+      go false h = omega (arith, length-put-new h)
+
 -- in a set, a key that is there is put over itself
 pub put-held : (a : ℕ) (l : List ℕ) → has self a l ≡ true → put self a l ≡ l
 unfolding if
@@ -223,3 +238,39 @@ module _ {A : Type 0} where
   getD-remove-at d zero k (x ∷ l) h = refl
   getD-remove-at d (suc i) zero (x ∷ l) h = absurd (not-suc-le-zero h)
   getD-remove-at d (suc i) (suc k) (x ∷ l) h = getD-remove-at d i k l (le-of-suc-le-suc h)
+
+-- a table by the list of its keys
+module _ {A : Type 0} (key : A → ℕ) where
+  pub rank-keys : (q : ℕ) (l : List A) → rank key q l ≡ rank self q (map key l)
+  rank-keys q [] = refl
+  rank-keys q (x ∷ l) = ap (λ (r : ℕ). if (ltb (key x) q) (suc r) 0) (rank-keys q l)
+
+  pub has-keys : (q : ℕ) (l : List A) → has key q l ≡ has self q (map key l)
+  has-keys q [] = refl
+  has-keys q (x ∷ l) = ap (λ (r : Bool). if (ltb (key x) q) r (eqb (key x) q)) (has-keys q l)
+
+  above-keys : (k : ℕ) (l : List A) → Above key k l → Above self k (map key l)
+  above-keys k [] a = tt
+  above-keys k (x ∷ l) a = a
+
+  keys-above : (k : ℕ) (l : List A) → Above self k (map key l) → Above key k l
+  keys-above k [] a = tt
+  keys-above k (x ∷ l) a = a
+
+  pub rising-keys : (l : List A) → Rising key l → Rising self (map key l)
+  rising-keys [] r = tt
+  rising-keys (x ∷ l) r = (above-keys (key x) l (r .0), rising-keys l (r .1))
+
+  pub keys-rising : (l : List A) → Rising self (map key l) → Rising key l
+  keys-rising [] r = tt
+  keys-rising (x ∷ l) r = (keys-above (key x) l (r .0), keys-rising l (r .1))
+
+module _ {A : Type 0} where
+  -- the first and the last row, by index
+  pub first-is : (d : A) (l : List A) → first d l ≡ getD l 0 d
+  first-is d [] = refl
+  first-is d (x ∷ l) = refl
+
+  pub last-is : (e d : A) (l : List A) → last d l ≡ getD (d ∷ l) (length l) e
+  last-is e d [] = refl
+  last-is e d (x ∷ l) = last-is e x l

@@ -1,0 +1,5 @@
+pub mod Rows
+pub mod Puts
+pub mod Adds
+pub mod Checks
+pub mod Marks

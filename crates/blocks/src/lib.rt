@@ -1,0 +1,356 @@
+// The table of a function's basic blocks, ascending by start: two lent slices, starts and ends. An open block ends at 0.
+ghost use mathlib.Core.Path.{_≡_};
+ghost use mathlib.Core.Bool.{_||_, false};
+ghost use mathlib.Core.List.{_∷_};
+ghost use Prim.Native.Nat.{min, _<_, _≤_};
+ghost use lib.Dec.{ltb};
+ghost use lib.ListN.{length, getD};
+ghost use Rattle.rules.specs.Ordered.{has, put};
+ghost use Rattle.rules.specs.Blocks.{block, startOf, below, cut, first-start, last-start, last-end, apart, first-disconnected-block, is-block, is-table, most-blocks};
+ghost use Rattle.blocks.specs.Table.{rows, Table, Room, Looked, Reached, Holds, IsStored, IsAdded, row-holds};
+ghost use Rattle.blocks.specs.Marks.{markable, mark-lent, IsAnswered, IsMarking};
+
+// Whether an address became the start of a new open block, or the table is full.
+pub enum Added {
+    Yes,
+    No,
+    Full,
+}
+
+// How many blocks the table has after a mark, and what the mark came to.
+pub struct Step {
+    pub count: usize,
+    pub added: Added,
+}
+
+// How many blocks the table has after a block was put in, or that it is full.
+pub struct Stored {
+    pub count: usize,
+    pub full: bool,
+}
+
+// A block by value; 0 0 for none.
+pub struct BlockRange {
+    pub start: u64,
+    pub end: u64,
+}
+
+// The element before the place p; 0 where there is none.
+fn before_place(xs: &[u64], p: usize) -> u64
+    requires { ⌜ p ≤ length (now xs) ⌝ }
+    ensures { λ r. ⌜ r ≡ getD (0 ∷ now (xs .entry)) p 0 ⌝ }
+{
+    if p == 0 {
+        return 0;
+    }
+    xs[p - 1]
+}
+
+// Whether a block with the start that was looked up can be put in.
+fn has_room(f: ordered::Found, n: usize, room: usize) -> bool
+    ensures { λ r. ⌜ r ≡ (f .hit || ltb n room) ⌝ }
+{
+    if f.hit {
+        return true;
+    }
+    n < room
+}
+
+// Puts a block in at the place where its start was looked up; how many there are then.
+fn put_at(
+    ss: &mut [u64],
+    es: &mut [u64],
+    n: usize,
+    f: ordered::Found,
+    start: u64,
+    end: u64,
+) -> usize
+    requires { ⌜ Looked n start f (now ss) (now es) ⌝ }
+    ensures { λ r. ⌜ Holds r (put startOf (block start end) (rows n (now (ss .entry)) (now (es .entry)))) (now (ss .entry)) (now (es .entry)) (now (ss .exit)) (now (es .exit)) ⌝ }
+{
+    let at = f.at;
+    if f.hit {
+        ordered::replace_at(es, n, at, end);
+        return n;
+    }
+    ordered::insert_at(ss, n, at, start);
+    ordered::insert_at(es, n, at, end);
+    n + 1
+}
+
+// Sets the end of the block that starts at start, which is put in if there is none.
+pub fn set_end(
+    ss: &mut [u64],
+    es: &mut [u64],
+    n: usize,
+    room: usize,
+    start: u64,
+    end: u64,
+) -> Stored
+    requires table { ⌜ Table n (now ss) (now es) ⌝ }
+    requires room { ⌜ Room n room (now ss) (now es) ⌝ }
+    ensures { λ r. ⌜ IsStored n room (block start end) (now (ss .entry)) (now (es .entry)) (now (ss .exit)) (now (es .exit)) r ⌝ }
+{
+    let f = ordered::find(ss, n, start);
+    if has_room(f, n, room) {
+        let count = put_at(ss, es, n, f, start, end);
+        return Stored { count, full: false };
+    }
+    Stored {
+        count: n,
+        full: true,
+    }
+}
+
+// Ends the block that reaches over addr there, and starts the rest of it at addr; how many blocks there are then.
+fn cut_at(ss: &mut [u64], es: &mut [u64], n: usize, f: ordered::Found, addr: u64, end: u64) -> usize
+    requires { ⌜ Reached n addr f end (now ss) (now es) ⌝ }
+    ensures { λ r. ⌜ Holds r (cut addr (rows n (now (ss .entry)) (now (es .entry)))) (now (ss .entry)) (now (es .entry)) (now (ss .exit)) (now (es .exit)) ⌝ }
+{
+    let q = f.at - 1;
+    ordered::replace_at(es, n, q, addr);
+    put_at(ss, es, n, f, addr, end)
+}
+
+// Marks addr as the start of a block: cuts the block that reaches over it, or opens one there.
+pub fn add_block_start(ss: &mut [u64], es: &mut [u64], n: usize, room: usize, addr: u64) -> Step
+    requires table { ⌜ Table n (now ss) (now es) ⌝ }
+    requires room { ⌜ Room n room (now ss) (now es) ⌝ }
+    ensures { λ r. ⌜ IsAdded n room addr (now (ss .entry)) (now (es .entry)) (now (ss .exit)) (now (es .exit)) r ⌝ }
+{
+    let f = ordered::find(ss, n, addr);
+    let end = before_place(es, f.at);
+    if has_room(f, n, room) {
+        if addr < end {
+            let count = cut_at(ss, es, n, f, addr, end);
+            let added = Added::No;
+            return Step { count, added };
+        }
+        if f.hit {
+            return Step {
+                count: n,
+                added: Added::No,
+            };
+        }
+        let count = put_at(ss, es, n, f, addr, 0);
+        return Step {
+            count,
+            added: Added::Yes,
+        };
+    }
+    Step {
+        count: n,
+        added: Added::Full,
+    }
+}
+
+// Whether a block starts at addr.
+pub fn has_start(ss: &[u64], es: &[u64], n: usize, addr: u64) -> bool
+    requires { ⌜ Table n (now ss) (now es) ⌝ }
+    ensures { λ r. ⌜ r ≡ has startOf addr (rows n (now (ss .entry)) (now (es .entry))) ⌝ }
+{
+    ordered::find(ss, n, addr).hit
+}
+
+// The first start; 0 where there is none.
+pub fn start(ss: &[u64], es: &[u64], n: usize) -> u64
+    requires { ⌜ (n ≤ length (now ss)) × (n ≤ length (now es)) ⌝ }
+    ensures { λ r. ⌜ r ≡ first-start (rows n (now (ss .entry)) (now (es .entry))) ⌝ }
+{
+    if n == 0 {
+        return 0;
+    }
+    ss[0]
+}
+
+// The last start; 0 where there is none.
+pub fn last_start(ss: &[u64], es: &[u64], n: usize) -> u64
+    requires { ⌜ (n ≤ length (now ss)) × (n ≤ length (now es)) ⌝ }
+    ensures { λ r. ⌜ r ≡ last-start (rows n (now (ss .entry)) (now (es .entry))) ⌝ }
+{
+    before_place(ss, n)
+}
+
+// The last block's end; 0 where it is open or there is none.
+pub fn end(ss: &[u64], es: &[u64], n: usize) -> u64
+    requires { ⌜ (n ≤ length (now ss)) × (n ≤ length (now es)) ⌝ }
+    ensures { λ r. ⌜ r ≡ last-end (rows n (now (ss .entry)) (now (es .entry))) ⌝ }
+{
+    before_place(es, n)
+}
+
+// The nearest block that starts below addr.
+pub fn lower(ss: &[u64], es: &[u64], n: usize, addr: u64) -> BlockRange
+    requires { ⌜ Table n (now ss) (now es) ⌝ }
+    ensures { λ r. ⌜ block (r .start) (r .end) ≡ below addr (rows n (now (ss .entry)) (now (es .entry))) ⌝ }
+{
+    let p = ordered::rank_in(ss, n, addr);
+    BlockRange {
+        start: before_place(ss, p),
+        end: before_place(es, p),
+    }
+}
+
+// Whether both blocks are closed, and words lie between.
+fn is_apart(start: u64, end: u64, next: u64, until: u64) -> bool
+    ensures { λ r. ⌜ r ≡ apart (block start end) (block next until) ⌝ }
+{
+    if end == 0 {
+        return false;
+    }
+    if until == 0 {
+        return false;
+    }
+    end < next
+}
+
+// The first block that stands apart from the next.
+pub fn first_disconnected_block(ss: &[u64], es: &[u64], n: usize) -> BlockRange
+    requires { ⌜ (n ≤ length (now ss)) × (n ≤ length (now es)) ⌝ }
+    ensures { λ r. ⌜ block (r .start) (r .end) ≡ first-disconnected-block (rows n (now (ss .entry)) (now (es .entry))) ⌝ }
+{
+    let mut i: usize = 0;
+    let mut next: usize = 1;
+    while next < n {
+        if is_apart(ss[i], es[i], ss[next], es[next]) {
+            return BlockRange {
+                start: ss[i],
+                end: es[i],
+            };
+        }
+        i = next;
+        next += 1;
+    }
+    BlockRange { start: 0, end: 0 }
+}
+
+// Whether start and end are multiples of 4, and a closed end lies above its start.
+fn is_block(start: u64, end: u64) -> bool
+    ensures { λ r. ⌜ r ≡ is-block (block start end) ⌝ }
+{
+    if start % 4 == 0 {
+        if end % 4 == 0 {
+            if end == 0 {
+                return true;
+            }
+            return start < end;
+        }
+    }
+    false
+}
+
+// Whether the row at i is a block and starts below the next.
+fn is_row(ss: &[u64], es: &[u64], n: usize, i: usize) -> bool
+    requires { ⌜ (i < n) × (n ≤ length (now ss)) × (n ≤ length (now es)) ⌝ }
+    ensures { λ r. ⌜ r ≡ row-holds (rows n (now (ss .entry)) (now (es .entry))) i ⌝ }
+{
+    if is_block(ss[i], es[i]) {
+        let next = i + 1;
+        if next < n {
+            return ss[i] < ss[next];
+        }
+        return true;
+    }
+    false
+}
+
+// Whether all rows are blocks, and their starts ascend strictly.
+fn is_table(ss: &[u64], es: &[u64], n: usize) -> bool
+    requires { ⌜ (n ≤ length (now ss)) × (n ≤ length (now es)) ⌝ }
+    ensures { λ r. ⌜ r ≡ is-table (rows n (now (ss .entry)) (now (es .entry))) ⌝ }
+{
+    let mut i: usize = 0;
+    while i < n {
+        if is_row(ss, es, n, i) {
+            i += 1;
+        } else {
+            return false;
+        }
+    }
+    true
+}
+
+fn shorter(a: usize, b: usize) -> usize
+    ensures { λ r. ⌜ r ≡ min a b ⌝ }
+{
+    if a < b {
+        return a;
+    }
+    b
+}
+
+// How many blocks may stand in slices of these lengths: 256, or as many as the shorter holds.
+fn room_in(a: usize, b: usize) -> usize
+    ensures { λ r. ⌜ r ≡ most-blocks (min a b) ⌝ }
+{
+    shorter(256, shorter(a, b))
+}
+
+// Whether the count fits both slices, and the address and the table break no rule.
+fn is_markable(ss: &[u64], es: &[u64], n: usize, addr: u64) -> bool
+    ensures { λ r. ⌜ r ≡ markable n addr (now (ss .entry)) (now (es .entry)) ⌝ }
+{
+    if n <= ss.len() {
+        if n <= es.len() {
+            if addr % 4 == 0 {
+                return is_table(ss, es, n);
+            }
+        }
+    }
+    false
+}
+
+// What a mark came to: 0, or 3 or 4 where nothing was changed; how many blocks there are; whether a new open block starts there.
+pub struct Marking {
+    pub number: u32,
+    pub count: usize,
+    pub new: bool,
+}
+
+// The answer of a mark in a table that breaks no rule.
+fn answered(r: Step) -> Marking
+    ensures { λ m. ⌜ IsAnswered r m ⌝ }
+{
+    let count = r.count;
+    let added = r.added;
+    match added {
+        Added::Yes => Marking {
+            number: 0,
+            count,
+            new: true,
+        },
+        Added::No => Marking {
+            number: 0,
+            count,
+            new: false,
+        },
+        Added::Full => Marking {
+            number: 4,
+            count,
+            new: false,
+        },
+    }
+}
+
+// Marks addr in a lent table, which may be any: 3 where it or addr breaks a rule, 4 where it is full.
+pub fn mark(ss: &mut [u64], es: &mut [u64], n: usize, addr: u64) -> Marking
+    ensures { λ r. ⌜ IsMarking (mark-lent n addr (now (ss .entry)) (now (es .entry))) n (now (ss .entry)) (now (es .entry)) (now (ss .exit)) (now (es .exit)) r ⌝ }
+{
+    if is_markable(ss, es, n, addr) {
+        let room = room_in(ss.len(), es.len());
+        if room < n {
+            return Marking {
+                number: 4,
+                count: n,
+                new: false,
+            };
+        }
+        let r = add_block_start(ss, es, n, room, addr);
+        return answered(r);
+    }
+    Marking {
+        number: 3,
+        count: n,
+        new: false,
+    }
+}

@@ -1,0 +1,4 @@
+pub mod Arrays
+pub mod Shift
+pub mod Columns
+pub mod Sets
