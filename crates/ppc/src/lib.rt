@@ -1,0 +1,3 @@
+// PowerPC instruction words, as the Rust crate ppc750cl reads them, and the tests of a word that slices.rs makes.
+pub mod fields;
+pub mod words;
