@@ -1,11 +1,10 @@
 -- A branch's distance: its sign by cases, its size, and its sum with an address in 32 bits. Assumes nothing.
 use Prim.Native.Nat.{ℕ, suc, _+_, _*_, _-_, _%_, _≤_, _<_}
 use mathlib.Core.Path.{_≡_, refl, sym, _∙_, ap, subst}
-use mathlib.Core.Bool.{Bool, true, false}
 use native.Mathlib.Omega.{arith}
 use native.Mathlib.Decide.{decLt}
 use borrow.Author.Tests.{lt-ltb, le-ltb}
-use lib.IntN.{ℤ, pos, negsuc, negℤ, subℕ, _+ℤ_, _-ℤ_, _*ℤ_, +ℤ-idl}
+use lib.IntN.{ℤ, pos, negsuc, negℤ, subℕ, _+ℤ_, _-ℤ_, _*ℤ_}
 use mir.Syntax.{w32}
 use mir.Val.{SFits, toZ, ofZ}
 use mir.Facts.{toZ-pos, toZ-ofZ}
@@ -94,14 +93,7 @@ module _ (w : ℕ) (z : ℤ) (fits : SFits w32 z) (is : z ≡ branch-words w) wh
   pub four-counts : toZ w32 (ofZ w32 (pos 4 *ℤ toZ w32 (ofZ w32 z))) ≡ branch-distance w
   four-counts = toZ-ofZ four-counts-fit ∙ four
 
--- d is the distance in 32 bits
-module _ (w d : ℕ) (is : d ≡ in-32-bits (branch-distance w)) where
-  pub dest-absolute : (b : Bool) (a : ℕ) → b ≡ is-absolute w → b ≡ true → d ≡ branch-dest w a
-  unfolding branch-dest
-  dest-absolute b a e h =
-      is ∙ sym (ap (λ (x : ℕ). in-32-bits (pos x +ℤ branch-distance w)) (if-true (sym e ∙ h) 0 a) ∙ ap in-32-bits (+ℤ-idl (branch-distance w)))
-
-  pub dest-relative : (b : Bool) (a r : ℕ) → b ≡ is-absolute w → b ≡ false → r ≡ (a + d) % 4294967296 → r ≡ branch-dest w a
-  unfolding branch-dest
-  dest-relative b a r e h s =
-      s ∙ rw is (sym (ap (λ (x : ℕ). in-32-bits (pos x +ℤ branch-distance w)) (if-false (sym e ∙ h) 0 a) ∙ sum-in-32-bits a (branch-distance w)))
+-- o is where the distance d, in 32 bits, counts from
+pub dest-is : (w a o d r : ℕ) → o ≡ if (is-absolute w) 0 a → d ≡ in-32-bits (branch-distance w) → r ≡ (o + d) % 4294967296 → r ≡ branch-dest w a
+unfolding branch-dest
+dest-is w a o d r eo ed s = s ∙ rw (eo, ed) (sym (sum-in-32-bits (if (is-absolute w) 0 a) (branch-distance w)))

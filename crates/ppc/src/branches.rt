@@ -1,5 +1,6 @@
 // The target of a direct branch.
 ghost use mathlib.Core.Path.{_≡_};
+ghost use Rattle.rules.specs.Choice.{if};
 ghost use Rattle.rules.specs.Branches as rules;
 use crate::fields::field;
 
@@ -26,10 +27,10 @@ fn distance_bits(w: u32) -> u32
     ensures { λ r. ⌜ r ≡ rules.in-32-bits (rules.branch-distance w) ⌝ }
 {
     let x = field(w, 2, 24);
-    if x < 0x80_0000 {
-        return 4 * x;
+    if 0x80_0000 <= x {
+        return 0xFC00_0000 + 4 * x;
     }
-    0xFC00_0000 + 4 * x
+    4 * x
 }
 
 // Bit 30: the count is from 0.
@@ -39,12 +40,19 @@ pub fn is_absolute(w: u32) -> bool
     field(w, 1, 1) == 1
 }
 
-// The target of the branch w at the address addr.
+// Where the distance counts from.
+fn origin(w: u32, addr: u32) -> u32
+    ensures { λ r. ⌜ r ≡ if (rules.is-absolute w) 0 addr ⌝ }
+{
+    if is_absolute(w) {
+        return 0;
+    }
+    addr
+}
+
+// The target of the branch w at the address addr, in 32 bits.
 pub fn branch_dest(w: u32, addr: u32) -> u32
     ensures { λ r. ⌜ r ≡ rules.branch-dest w addr ⌝ }
 {
-    if is_absolute(w) {
-        return distance_bits(w);
-    }
-    std::num::wrapping_add_u32(addr, distance_bits(w))
+    std::num::wrapping_add_u32(origin(w, addr), distance_bits(w))
 }

@@ -44,11 +44,11 @@ pub fn field_rb(w: u32) -> u32
     field(w, 11, 5)
 }
 
-// What a conditional branch asks for.
+// BO, what a conditional branch asks for, lies where rD does.
 pub fn field_bo(w: u32) -> u32
     ensures { λ r. ⌜ r ≡ rules.field-bo w ⌝ }
 {
-    field(w, 21, 5)
+    field_rd(w)
 }
 
 // The number of a special register: its halves are exchanged in the word.

@@ -1,9 +1,7 @@
 // Prologue and epilogue sequences in the bytes of a section.
 ghost use mathlib.Core.Path.{_≡_};
-ghost use mathlib.Core.Bool.{_&&_};
 ghost use mathlib.Core.List.{[], _∷_};
-ghost use Prim.Native.Nat.{_+_, _≤_, _<_};
-ghost use lib.ListN.{length, drop};
+ghost use lib.ListN.{drop};
 ghost use Rattle.rules.specs.Bytes.{words-in, words-at};
 ghost use Rattle.rules.specs.Sequences as rules;
 ghost use Rattle.ppc.specs.Tests.{test, pair-of};
@@ -15,6 +13,7 @@ use crate::words::is_mtlr;
 use crate::words::is_or;
 use crate::words::is_stw;
 use crate::words::is_stwu;
+use crate::words::word_at;
 
 // The tests of one word, by number.
 const STWU: u8 = 0;
@@ -54,21 +53,6 @@ pub fn is_end_of_seq(w: u32) -> bool
     ensures { λ r. ⌜ r ≡ rules.is-end-of-seq w ⌝ }
 {
     is_branch(w) | names_r0_or_r1(w)
-}
-
-fn wide(b: u8) -> u32
-    ensures { λ r. ⌜ (r ≡ b) × (r < 256) ⌝ }
-{
-    b as u32
-}
-
-// The word whose first byte is at an offset: the next one of the words from there.
-pub fn word_at(bytes: &[u8], at: usize) -> u32
-    requires { ⌜ at + 4 ≤ length (now bytes) ⌝ }
-    ensures { λ r. ⌜ words-in (drop at (now (bytes .entry))) ≡ r ∷ words-in (drop (at + 4) (now (bytes .entry))) ⌝ }
-{
-    let high = wide(bytes[at]) * 256 + wide(bytes[at + 1]);
-    (high * 256 + wide(bytes[at + 2])) * 256 + wide(bytes[at + 3])
 }
 
 // Whether a partner comes before the scan stops. The partner is tested first: a word that names r0 or r1 may be one.
@@ -125,7 +109,11 @@ pub fn check_sequence(bytes: &[u8], base: u32, addr: u32, p: Pair, q: Pair, s: P
     if is_pair(bytes, at + 4, w, q) {
         return true;
     }
-    is_pair(bytes, at + 4, w, s)
+    // With a second caller `scan` stays a function of its own, and a word that begins nothing costs no call.
+    if is_test(s.first, w) {
+        return scan(bytes, at + 4, s.second);
+    }
+    false
 }
 
 pub fn check_prologue_sequence(bytes: &[u8], base: u32, addr: u32) -> bool

@@ -1,5 +1,9 @@
-// Tests of one instruction word.
+// Instruction words: reading one, and tests of one.
 ghost use mathlib.Core.Path.{_≡_};
+ghost use mathlib.Core.List.{_∷_};
+ghost use Prim.Native.Nat.{_+_, _≤_, _<_};
+ghost use lib.ListN.{length, drop};
+ghost use Rattle.rules.specs.Bytes.{words-in};
 ghost use Rattle.rules.specs.Words as rules;
 use crate::fields::extended;
 use crate::fields::field;
@@ -8,6 +12,21 @@ use crate::fields::field_ra;
 use crate::fields::field_rd;
 use crate::fields::field_spr;
 use crate::fields::opcode;
+
+fn wide(b: u8) -> u32
+    ensures { λ r. ⌜ (r ≡ b) × (r < 256) ⌝ }
+{
+    b as u32
+}
+
+// The word whose first byte is at an offset: the next one of the words from there.
+pub fn word_at(bytes: &[u8], at: usize) -> u32
+    requires { ⌜ at + 4 ≤ length (now bytes) ⌝ }
+    ensures { λ r. ⌜ words-in (drop at (now (bytes .entry))) ≡ r ∷ words-in (drop (at + 4) (now (bytes .entry))) ⌝ }
+{
+    let high = wide(bytes[at]) * 256 + wide(bytes[at + 1]);
+    (high * 256 + wide(bytes[at + 2])) * 256 + wide(bytes[at + 3])
+}
 
 pub fn is_blr(w: u32) -> bool
     ensures { λ r. ⌜ r ≡ rules.is-blr w ⌝ }

@@ -3,7 +3,7 @@ use Prim.Native.Nat.{_+_, _-_, _<_}
 use native.Mathlib.Omega.{arith}
 use denote.Ref.{now}
 use lib.ListN.{length}
-use Rattle.ppc.proofs.Scan.{below-section, past-section, first-fits, second-fits, third-decides}
+use Rattle.ppc.proofs.Scan.{below-section, past-section, first-fits, second-fits, third-decides, pair-scan, pair-none}
 use borrow.Author.Needs.{needs}
 use Rattle.ppc.proofs.sequences.check_sequence.Statement.{statement}
 use Rattle.ppc.proofs.sequences.check_sequence.Tie as tie
@@ -24,7 +24,10 @@ returns-5 : tie.Need-returns-5
 returns-5 c = search (needs, second-fits)
 
 returns-6 : tie.Need-returns-6
-returns-6 c = search (needs, third-decides)
+returns-6 c = search (needs, third-decides, pair-scan)
+
+returns-7 : tie.Need-returns-7
+returns-7 c = search (needs, third-decides, pair-none)
 
 pub check-sequence-spec : {M : Type 1} → statement M
 check-sequence-spec =
@@ -42,6 +45,8 @@ check-sequence-spec =
     (λ c. search needs)
     (λ c κs. search needs)
     returns-5
+    (λ c κs. search needs)
     (λ c. search needs)
     (λ c κs. search needs)
-    returns-6)
+    returns-6
+    returns-7)

@@ -1,8 +1,8 @@
--- `ppc::sequences::word_at` is the next of the words of `rules`. Assumes nothing.
+-- `ppc::words::word_at` is the next of the words of `rules`. Assumes nothing.
 use Rattle.ppc.proofs.Scan.{word-is}
 use borrow.Author.Needs.{needs}
-use Rattle.ppc.proofs.sequences.word_at.Statement.{statement}
-use Rattle.ppc.proofs.sequences.word_at.Tie as tie
+use Rattle.ppc.proofs.words.word_at.Statement.{statement}
+use Rattle.ppc.proofs.words.word_at.Tie as tie
 
 returns : tie.Need-returns
 returns c = search (needs, word-is)
