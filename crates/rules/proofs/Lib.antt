@@ -26,3 +26,4 @@ pub mod Whole
 pub mod Images
 pub mod Examples
 pub mod Blocks
+pub mod Bytes

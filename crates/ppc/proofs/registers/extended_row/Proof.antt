@@ -1,0 +1,15 @@
+-- `ppc::registers::extended_row`: the table is the codes of the rows of `rules`, which antt computes. Assumes nothing.
+use mathlib.Core.Path.{refl}
+use Rattle.rules.specs.Choice.{if}
+use Rattle.rules.specs.Registers.{extended-rows, arithmetic-table, extended-table}
+use Rattle.ppc.specs.Codes.{codes}
+use borrow.Author.Needs.{needs}
+use Rattle.ppc.proofs.registers.extended_row.Statement.{statement}
+use Rattle.ppc.proofs.registers.extended_row.Tie as tie
+
+returns : tie.Need-returns
+unfolding codes extended-rows arithmetic-table extended-table if
+returns c = refl
+
+pub extended-row-spec : {M : Type 1} → statement M
+extended-row-spec = tie.close (tie.spec (λ c. search needs) (λ c. search needs) returns)
