@@ -229,7 +229,8 @@ fn take_all(l: Line, bytes: &[u8]) -> Line {
 fn main() {
     let mut l = fresh();
     // The input is taken in parts; a million of them are four gigabytes.
-    for _ in 0..1000000 {
+    let mut turn: usize = 0;
+    while turn < 1000000 {
         let mut space = io::buffer();
         let got = libc::read(0, &mut space);
         if got <= 0 {
@@ -237,6 +238,7 @@ fn main() {
         }
         let n = io::count(got, &space);
         l = take_all(l, &space[..n]);
+        turn += 1;
     }
     if l.digits > 0 || l.bad {
         print_line(l);
