@@ -354,3 +354,21 @@ pub fn mark(ss: &mut [u64], es: &mut [u64], n: usize, addr: u64) -> Marking
         new: false,
     }
 }
+
+// The same for C: the number is the result, and the count and the answer are written through.
+#[no_mangle]
+pub extern "C" fn blocks_mark(
+    ss: &mut [u64],
+    es: &mut [u64],
+    n: usize,
+    addr: u64,
+    count: &mut usize,
+    new: &mut bool,
+) -> u32
+    ensures { λ r. ⌜ IsMarking (mark-lent n addr (now (ss .entry)) (now (es .entry))) n (now (ss .entry)) (now (es .entry)) (now (ss .exit)) (now (es .exit)) (record { number = r; count = now (count .exit); new = now (new .exit) }) ⌝ }
+{
+    let m = mark(ss, es, n, addr);
+    *count = m.count;
+    *new = m.new;
+    m.number
+}
