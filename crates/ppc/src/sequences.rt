@@ -29,13 +29,13 @@ const ADDI: u8 = 4;
 const OR: u8 = 5;
 
 // The word that a sequence starts with, and its partner, by the numbers of their tests.
-pub struct Pair {
-    pub first: u8,
-    pub second: u8,
+struct Pair {
+    first: u8,
+    second: u8,
 }
 
 // Whether a word passes the test of a number.
-pub fn is_test(t: u8, w: u32) -> bool
+fn is_test(t: u8, w: u32) -> bool
     ensures { λ r. ⌜ r ≡ test t w ⌝ }
 {
     match t {
@@ -89,7 +89,7 @@ fn is_pair(bytes: &[u8], from: usize, w: u32, p: Pair) -> bool
 
 // Whether the words from an address on begin one of three sequences, tried in this order. The section starts at base; outside it
 // there are no words.
-pub fn check_sequence(bytes: &[u8], base: u32, addr: u32, p: Pair, q: Pair, s: Pair) -> bool
+fn check_sequence(bytes: &[u8], base: u32, addr: u32, p: Pair, q: Pair, s: Pair) -> bool
     ensures { λ r. ⌜ r ≡ rules.check-sequence (pair-of p ∷ pair-of q ∷ pair-of s ∷ []) (words-at base (now (bytes .entry)) addr) ⌝ }
 {
     if addr < base {
@@ -119,7 +119,7 @@ pub fn check_sequence(bytes: &[u8], base: u32, addr: u32, p: Pair, q: Pair, s: P
 pub fn check_prologue_sequence(bytes: &[u8], base: u32, addr: u32) -> bool
     ensures { λ r. ⌜ r ≡ rules.check-prologue-sequence (words-at base (now (bytes .entry)) addr) ⌝ }
 {
-    let save = Pair {
+    let saved = Pair {
         first: STWU,
         second: MFLR,
     };
@@ -131,7 +131,7 @@ pub fn check_prologue_sequence(bytes: &[u8], base: u32, addr: u32) -> bool
         first: MFLR,
         second: STWU,
     };
-    check_sequence(bytes, base, addr, save, link, frame)
+    check_sequence(bytes, base, addr, saved, link, frame)
 }
 
 pub fn check_epilogue_sequence(bytes: &[u8], base: u32, addr: u32) -> bool
