@@ -1,12 +1,14 @@
 -- A branch's distance: its sign by cases, its size, and its sum with an address in 32 bits. Assumes nothing.
 use Prim.Native.Nat.{ℕ, suc, _+_, _*_, _-_, _%_, _≤_, _<_}
-use mathlib.Core.Path.{_≡_, refl, sym, _∙_, ap, subst}
+use mathlib.Core.Path.{_≡_, refl, sym, _∙_, ap}
 use native.Mathlib.Omega.{arith}
 use native.Mathlib.Decide.{decLt}
 use borrow.Author.Tests.{lt-ltb, le-ltb}
-use lib.IntN.{ℤ, pos, negsuc, negℤ, subℕ, _+ℤ_, _-ℤ_, _*ℤ_}
-use mir.Syntax.{w32}
-use mir.Val.{SFits, toZ, ofZ}
+use lib.IntN.{ℤ, pos, negsuc, negℤ, natAbs, subℕ, _+ℤ_, _-ℤ_, _*ℤ_}
+use lib.Dec.{T}
+use lib.Signed.{nonNeg}
+use mir.Syntax.{w32, w64}
+use mir.Val.{Fits, SFits, toZ, ofZ}
 use mir.Facts.{toZ-pos, toZ-ofZ}
 use Rattle.rules.specs.Choice.{if, if-true, if-false}
 use Rattle.rules.specs.Words.{field}
@@ -66,12 +68,6 @@ module _ (w x : ℕ) (is : x ≡ field 2 24 w) where
   pub count-near : x < 8388608 → toZ w32 x ≡ branch-words w
   count-near h = toZ-pos w32 (omega arith) ∙ ap pos is ∙ sym (words-near w (omega arith))
 
-  pub bits-near : x < 8388608 → 4 * x ≡ in-32-bits (branch-distance w)
-  bits-near h = rw (distance-near w (omega arith)) (omega arith)
-
-  pub bits-far : 8388608 ≤ x → 4227858432 + 4 * x ≡ in-32-bits (branch-distance w)
-  bits-far h = rw (distance-far w (omega arith)) (omega arith)
-
   far-is : 8388608 ≤ x → toZ w32 x -ℤ pos 16777216 ≡ negsuc (16777215 - x)
   far-is h = rw (toZ-pos w32 {n = x} (omega arith)) (below-zero x (omega arith))
 
@@ -93,7 +89,60 @@ module _ (w : ℕ) (z : ℤ) (fits : SFits w32 z) (is : z ≡ branch-words w) wh
   pub four-counts : toZ w32 (ofZ w32 (pos 4 *ℤ toZ w32 (ofZ w32 z))) ≡ branch-distance w
   four-counts = toZ-ofZ four-counts-fit ∙ four
 
--- o is where the distance d, in 32 bits, counts from
-pub dest-is : (w a o d r : ℕ) → o ≡ if (is-absolute w) 0 a → d ≡ in-32-bits (branch-distance w) → r ≡ (o + d) % 4294967296 → r ≡ branch-dest w a
+-- a distance and 2^32, which is above 0
+abbrev raised : ℤ → ℕ
+raised (pos n) = n + 4294967296
+raised (negsuc n) = 4294967295 - n
+
+module _ (d : ℤ) (fits : SFits w32 d) where
+  raised-is : d +ℤ pos 4294967296 ≡ pos (raised d)
+  raised-is = by d fits
+    where
+      by : (z : ℤ) → SFits w32 z → z +ℤ pos 4294967296 ≡ pos (raised z)
+      by (pos n) f = refl
+      by (negsuc n) f =
+          let k : suc n ≤ 4294967296 = omega (arith, f .sfits) in
+          let e : 4294967296 - suc n ≡ 4294967295 - n = omega arith in
+          rw (le-ltb _ _ k, e)
+
+  raised-below : raised d < 8589934592
+  raised-below = by d fits
+    where
+      by : (z : ℤ) → SFits w32 z → raised z < 8589934592
+      by (pos n) f = omega (arith, f .sfits)
+      by (negsuc n) f = omega arith
+
+  pub wider : SFits w64 (toZ w32 (ofZ w32 d))
+  wider = rw (toZ-ofZ fits) (by d fits)
+    where
+      by : (z : ℤ) → SFits w32 z → SFits w64 z
+      by (pos n) f = record { sfits = omega (arith, f .sfits) }
+      by (negsuc n) f = record { sfits = omega (arith, f .sfits) }
+
+  same : toZ w64 (ofZ w64 (toZ w32 (ofZ w32 d))) ≡ d
+  same = toZ-ofZ wider ∙ toZ-ofZ fits
+
+  pub sum-fits : SFits w64 (toZ w64 (ofZ w64 (toZ w32 (ofZ w32 d))) +ℤ pos 4294967296)
+  sum-fits = rw (same, raised-is) (record { sfits = omega (arith, raised-below) })
+
+  sum-is : toZ w64 (ofZ w64 (toZ w64 (ofZ w64 (toZ w32 (ofZ w32 d))) +ℤ pos 4294967296)) ≡ pos (raised d)
+  sum-is = toZ-ofZ sum-fits ∙ rw same raised-is
+
+  pub sum-unsigned : T (nonNeg (toZ w64 (ofZ w64 (toZ w64 (ofZ w64 (toZ w32 (ofZ w32 d))) +ℤ pos 4294967296)))) × Fits w64 (natAbs (toZ w64 (ofZ w64 (toZ w64 (ofZ w64 (toZ w32 (ofZ w32 d))) +ℤ pos 4294967296))))
+  sum-unsigned = rw sum-is (tt, record { fits = omega (arith, raised-below) })
+
+  module _ (a : ℕ) (small : a < 4294967296) where
+    pub total-fits : Fits w64 (natAbs (toZ w64 (ofZ w64 (toZ w64 (ofZ w64 (toZ w32 (ofZ w32 d))) +ℤ pos 4294967296))) + a)
+    total-fits = rw sum-is (record { fits = omega (arith, raised-below) })
+
+    pub moved-is : (natAbs (toZ w64 (ofZ w64 (toZ w64 (ofZ w64 (toZ w32 (ofZ w32 d))) +ℤ pos 4294967296))) + a) % 4294967296 ≡ in-32-bits (pos a +ℤ d)
+    moved-is = rw (sum-is, sum-in-32-bits a d) (by d fits)
+      where
+        by : (z : ℤ) → SFits w32 z → (raised z + a) % 4294967296 ≡ (a + in-32-bits z) % 4294967296
+        by (pos n) f = omega arith
+        by (negsuc n) f = let k : n % 4294967296 ≡ n = omega (arith, f .sfits) in omega arith
+
+-- o is where the distance d counts from
+pub dest-is : (w a o : ℕ) (d : ℤ) (r : ℕ) → o ≡ if (is-absolute w) 0 a → d ≡ branch-distance w → r ≡ in-32-bits (pos o +ℤ d) → r ≡ branch-dest w a
 unfolding branch-dest
-dest-is w a o d r eo ed s = s ∙ rw (eo, ed) (sym (sum-in-32-bits (if (is-absolute w) 0 a) (branch-distance w)))
+dest-is w a o d r eo ed s = s ∙ rw (eo, ed)

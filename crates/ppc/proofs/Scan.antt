@@ -1,10 +1,10 @@
 -- Scans and pairs, case by case, in the form of a contract. Assumes nothing.
 use Prim.Native.Nat.{ℕ, _+_, _-_, _≤_, _<_}
-use mathlib.Core.Path.{_≡_, refl, sym, _∙_, ap}
+use mathlib.Core.Path.{_≡_, sym, _∙_, ap}
 use mathlib.Core.Bool.{Bool, true, false, or-false}
 use mathlib.Core.List.{List, [], _∷_}
 use lib.ListN.{length, drop, getD}
-use Rattle.rules.specs.Choice.{if, if-true, if-false}
+use Rattle.rules.specs.Choice.{if-true, if-false}
 use Rattle.rules.specs.Bytes.{word-of, words-in, words-at}
 use Rattle.rules.specs.Sequences.{is-end-of-seq, scan, is-pair, check-sequence, Pair}
 use Rattle.rules.proofs.Bytes.{one-word, no-word, words-below, words-from}

@@ -1,6 +1,7 @@
 // The target of a direct branch.
 ghost use mathlib.Core.Path.{_≡_};
 ghost use Rattle.rules.specs.Choice.{if};
+ghost use lib.IntN.{pos, _+ℤ_};
 ghost use Rattle.rules.specs.Branches as rules;
 use crate::fields::field;
 
@@ -22,17 +23,6 @@ pub fn branch_distance(w: u32) -> i32
     4 * branch_words(w)
 }
 
-// The same as 32 bits, with the sign extended.
-fn distance_bits(w: u32) -> u32
-    ensures { λ r. ⌜ r ≡ rules.in-32-bits (rules.branch-distance w) ⌝ }
-{
-    let x = field(w, 2, 24);
-    if 0x80_0000 <= x {
-        return 0xFC00_0000 + 4 * x;
-    }
-    4 * x
-}
-
 // Bit 30: the count is from 0.
 pub fn is_absolute(w: u32) -> bool
     ensures { λ r. ⌜ r ≡ rules.is-absolute w ⌝ }
@@ -50,9 +40,18 @@ fn origin(w: u32, addr: u32) -> u32
     addr
 }
 
-// The target of the branch w at the address addr, in 32 bits.
+// An address moved by a signed distance, in 32 bits.
+fn moved(a: u32, d: i32) -> u32
+    ensures { λ r. ⌜ r ≡ rules.in-32-bits (pos a +ℤ d) ⌝ }
+{
+    // 2^32 more keeps the sum from falling below 0, and changes nothing in 32 bits.
+    let t = (d as i64 + 0x1_0000_0000) as u64 + a as u64;
+    (t % 0x1_0000_0000) as u32
+}
+
+// The target of the branch w at the address addr: the distance, which may be negative, added to the address that it counts from.
 pub fn branch_dest(w: u32, addr: u32) -> u32
     ensures { λ r. ⌜ r ≡ rules.branch-dest w addr ⌝ }
 {
-    std::num::wrapping_add_u32(origin(w, addr), distance_bits(w))
+    moved(origin(w, addr), branch_distance(w))
 }

@@ -1,11 +1,12 @@
-// Which general registers a word names: one hex digit for each opcode, sixteen opcodes to a number, the first of them in the lowest
-// digit. A digit is the sum of 1 if rD (or rS) names a register, 2 if rA does, 4 if rA does unless it is 0, and 8 if rB does. The
-// digits are the rows of rules' Registers. (A local array is built anew at each call: 64 numbers take 10 ns, 1,024 bytes 30.)
+// What an opcode says of its words: a small code for each, in two constant tables.
+// A code's bits are 1: rD (or rS) names a register, 2: rA, 4: rA unless it is 0, 8: rB, 16: a branch. The codes are those of the
+// rows of rules' Registers and of rules' is-branch.
 ghost use mathlib.Core.Path.{_≡_};
 ghost use Prim.Native.Nat.{_<_};
 ghost use lib.ListN.{getD};
 ghost use Rattle.rules.specs.Registers as rules;
-ghost use Rattle.ppc.specs.Codes.{codes, digit, fields-of-code, low-register};
+ghost use Rattle.rules.specs.Words as words;
+ghost use Rattle.ppc.specs.Codes.{IsPrimary, IsCode, fields-of-code, low-register, digit, extended-codes, branch-bits};
 use crate::fields::extended;
 use crate::fields::field;
 use crate::fields::field_ra;
@@ -13,15 +14,76 @@ use crate::fields::field_rb;
 use crate::fields::field_rd;
 use crate::fields::opcode;
 
-// By primary opcode.
-const PRIMARY: [u64; 4] = [
-    0x5533_2203_3000_2000, // 0
-    0x0033_3333_B033_0000, // 16
-    0x5535_3535_3535_3535, // 32
-    0x0000_0000_2424_2424, // 48
+// By primary opcode; 19 and 31 go on by extended opcode.
+const PRIMARY: [u8; 64] = [
+    0,
+    0,
+    0,
+    2,
+    0,
+    0,
+    0,
+    3,
+    3,
+    0,
+    2,
+    2,
+    3,
+    3,
+    5,
+    5, // 0
+    16,
+    0,
+    16,
+    0,
+    3,
+    3,
+    0,
+    11,
+    3,
+    3,
+    3,
+    3,
+    3,
+    3,
+    0,
+    0, // 16
+    5,
+    3,
+    5,
+    3,
+    5,
+    3,
+    5,
+    3,
+    5,
+    3,
+    5,
+    3,
+    5,
+    3,
+    5,
+    5, // 32
+    4,
+    2,
+    4,
+    2,
+    4,
+    2,
+    4,
+    2,
+    0,
+    0,
+    0,
+    0,
+    0,
+    0,
+    0,
+    0, // 48
 ];
 
-// By extended opcode, under the primary opcode 31.
+// By extended opcode under 31: the four lowest bits of a code, sixteen to a number, the first in its lowest digit. (A constant table is
+// laid out anew at each call, so this one is packed.)
 const EXTENDED: [u64; 64] = [
     0x0000_BB0B_000A_000A, // 0
     0x000B_030B_D00D_1000, // 16
@@ -89,26 +151,44 @@ const EXTENDED: [u64; 64] = [
     0x0000_0000_0C00_0000, // 1008
 ];
 
-fn primary_row(j: usize) -> u64
-    requires { ⌜ j < 4 ⌝ }
-    ensures { λ r. ⌜ r ≡ getD (codes rules.primary-table 4) j 0 ⌝ }
+// By extended opcode under 19: a bit for each, set for a branch.
+const BRANCHES: [u64; 16] = [0x1_0000, 0, 0, 0, 0, 0, 0, 0, 0x1_0000, 0, 0, 0, 0, 0, 0, 0];
+
+fn primary_code(x: usize) -> u8
+    requires { ⌜ x < 64 ⌝ }
+    ensures { λ r. ⌜ IsPrimary x r ⌝ }
 {
-    PRIMARY[j]
+    PRIMARY[x]
 }
 
-fn extended_row(j: usize) -> u64
+fn extended_codes(j: usize) -> u64
     requires { ⌜ j < 64 ⌝ }
-    ensures { λ r. ⌜ r ≡ getD (codes rules.extended-rows 64) j 0 ⌝ }
+    ensures { λ r. ⌜ r ≡ getD extended-codes j 0 ⌝ }
 {
     EXTENDED[j]
 }
 
-// Digit k of a row.
-fn digit_of(row: u64, k: u32) -> u32
-    requires { ⌜ k < 16 ⌝ }
-    ensures { λ r. ⌜ r ≡ digit k row ⌝ }
+fn branch_bits(j: usize) -> u64
+    requires { ⌜ j < 16 ⌝ }
+    ensures { λ r. ⌜ r ≡ getD branch-bits j 0 ⌝ }
 {
-    ((row >> (4 * k) as u64) % 16) as u32
+    BRANCHES[j]
+}
+
+// Digit k of a number, of four bits.
+fn hex_digit(n: u64, k: u32) -> u32
+    requires { ⌜ k < 16 ⌝ }
+    ensures { λ r. ⌜ r ≡ digit 4 k n ⌝ }
+{
+    ((n >> (4 * k) as u64) % 16) as u32
+}
+
+// Bit k of a number.
+fn bit_of(n: u64, k: u32) -> u32
+    requires { ⌜ k < 64 ⌝ }
+    ensures { λ r. ⌜ r ≡ digit 1 k n ⌝ }
+{
+    ((n >> k as u64) % 2) as u32
 }
 
 fn wide(x: u32) -> usize
@@ -117,20 +197,43 @@ fn wide(x: u32) -> usize
     x as usize
 }
 
-// The fields of a word that name registers, as a digit.
+fn number(x: u8) -> u32
+    ensures { λ r. ⌜ r ≡ x ⌝ }
+{
+    x as u32
+}
+
+// The code of a word's opcode.
+pub fn code(w: u32) -> u32
+    ensures { λ r. ⌜ IsCode w r ⌝ }
+{
+    let p = opcode(w);
+    let x = extended(w);
+    if p == 31 {
+        return hex_digit(extended_codes(wide(x / 16)), x % 16);
+    }
+    if p == 19 {
+        return 16 * bit_of(branch_bits(wide(x / 64)), x % 64);
+    }
+    number(primary_code(wide(p)))
+}
+
+// The fields of a word that name registers, as a code.
 pub fn register_fields(w: u32) -> u32
     ensures { λ r. ⌜ (fields-of-code r ≡ rules.fields-named w) × (r < 16) ⌝ }
 {
-    let p = opcode(w);
-    if p == 31 {
-        let x = extended(w);
-        return digit_of(extended_row(wide(x / 16)), x % 16);
-    }
-    digit_of(primary_row(wide(p / 16)), p % 16)
+    code(w) % 16
 }
 
-// Whether a field of a word that its digit c says to name a register names r0 or r1.
-fn names_low(c: u32, w: u32) -> bool
+// bc, b, bclr and bcctr.
+pub fn is_branch(w: u32) -> bool
+    ensures { λ r. ⌜ r ≡ words.is-branch w ⌝ }
+{
+    field(code(w), 4, 1) == 1
+}
+
+// Whether a field of a word that the code c says to name a register names r0 or r1.
+pub fn names_low(c: u32, w: u32) -> bool
     ensures { λ r. ⌜ r ≡ low-register (fields-of-code c) w ⌝ }
 {
     let a = field_ra(w);
@@ -144,5 +247,5 @@ fn names_low(c: u32, w: u32) -> bool
 pub fn names_r0_or_r1(w: u32) -> bool
     ensures { λ r. ⌜ r ≡ rules.names-r0-or-r1 w ⌝ }
 {
-    names_low(register_fields(w), w)
+    names_low(code(w), w)
 }

@@ -5,9 +5,10 @@ ghost use lib.ListN.{drop};
 ghost use Rattle.rules.specs.Bytes.{words-in, words-at};
 ghost use Rattle.rules.specs.Sequences as rules;
 ghost use Rattle.ppc.specs.Tests.{test, pair-of};
-use crate::registers::names_r0_or_r1;
+use crate::fields::field;
+use crate::registers::code;
+use crate::registers::names_low;
 use crate::words::is_addi;
-use crate::words::is_branch;
 use crate::words::is_mflr;
 use crate::words::is_mtlr;
 use crate::words::is_or;
@@ -48,11 +49,12 @@ fn is_test(t: u8, w: u32) -> bool
     }
 }
 
-// A scan stops at a branch and at a word that names r0 or r1.
+// A scan stops at a branch and at a word that names r0 or r1: both are read from the word's code.
 pub fn is_end_of_seq(w: u32) -> bool
     ensures { λ r. ⌜ r ≡ rules.is-end-of-seq w ⌝ }
 {
-    is_branch(w) | names_r0_or_r1(w)
+    let c = code(w);
+    (field(c, 4, 1) == 1) | names_low(c, w)
 }
 
 // Whether a partner comes before the scan stops. The partner is tested first: a word that names r0 or r1 may be one.

@@ -62,13 +62,6 @@ pub fn is_conditional_blr(w: u32) -> bool
     is_ext(w, 19, 16) & !((field(bo, 2, 1) == 1) & (field(bo, 4, 1) == 1))
 }
 
-// bc, b, bclr, bcctr
-pub fn is_branch(w: u32) -> bool
-    ensures { λ r. ⌜ r ≡ rules.is-branch w ⌝ }
-{
-    (opcode(w) == 16) | (opcode(w) == 18) | is_ext(w, 19, 16) | is_ext(w, 19, 528)
-}
-
 // mfspr r0, LR
 pub fn is_mflr(w: u32) -> bool
     ensures { λ r. ⌜ r ≡ rules.is-mflr w ⌝ }

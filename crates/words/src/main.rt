@@ -137,7 +137,7 @@ fn described(w: u32) -> Out {
         len: 0,
     };
     let a = put(put_word(o, w), b' ');
-    let b = if ppc::words::is_branch(w) {
+    let b = if ppc::registers::is_branch(w) {
         put_all(a, b"branch ")
     } else {
         put_all(a, b"- ")

@@ -1,7 +1,6 @@
 -- `ppc::fields::field` is the field of `rules`, at any place and width: the mask is a remainder. Assumes nothing.
-use Prim.Native.Nat.{ℕ, _*_, _%_, _^_, _≤_, _<_}
-use mathlib.Core.Path.{_≡_, _∙_}
-use native.Mathlib.Omega.{arith}
+use Prim.Native.Nat.{ℕ, _*_, _%_, _^_, _<_}
+use mathlib.Core.Path.{_≡_}
 use native.Mathlib.Nat.{one-mul, mod-eq-of-lt}
 use borrow.Author.Needs.{needs}
 use lib.Pow.{pow-lt, pow-pos}

@@ -1,6 +1,6 @@
 -- `ppc::sequences::is_test` is the test of its number. Assumes nothing.
 use Prim.Native.Nat.{ℕ}
-use mathlib.Core.Path.{_≡_, refl, sym, _∙_, ap}
+use mathlib.Core.Path.{_≡_}
 use mathlib.Core.Bool.{Bool}
 use borrow.Author.Tests.{ne-eqb}
 use Rattle.rules.specs.Choice.{if}
