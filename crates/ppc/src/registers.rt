@@ -16,70 +16,70 @@ use crate::fields::opcode;
 
 // By primary opcode; 19 and 31 go on by extended opcode.
 const PRIMARY: [u8; 64] = [
-    0,
-    0,
-    0,
-    2,
-    0,
-    0,
-    0,
-    3,
-    3,
-    0,
-    2,
-    2,
-    3,
-    3,
-    5,
-    5, // 0
-    16,
-    0,
-    16,
-    0,
-    3,
-    3,
-    0,
-    11,
-    3,
-    3,
-    3,
-    3,
-    3,
-    3,
-    0,
-    0, // 16
-    5,
-    3,
-    5,
-    3,
-    5,
-    3,
-    5,
-    3,
-    5,
-    3,
-    5,
-    3,
-    5,
-    3,
-    5,
-    5, // 32
-    4,
-    2,
-    4,
-    2,
-    4,
-    2,
-    4,
-    2,
-    0,
-    0,
-    0,
-    0,
-    0,
-    0,
-    0,
-    0, // 48
+    0, // 0
+    0, // 1
+    0, // 2
+    2, // 3 twi
+    0, // 4
+    0, // 5
+    0, // 6
+    3, // 7 mulli
+    3, // 8 subfic
+    0, // 9
+    2, // 10 cmpli
+    2, // 11 cmpi
+    3, // 12 addic
+    3, // 13 addic.
+    5, // 14 addi
+    5, // 15 addis
+    16, // 16 bc
+    0, // 17
+    16, // 18 b
+    0, // 19 by extended opcode
+    3, // 20 rlwimi
+    3, // 21 rlwinm
+    0, // 22
+    11, // 23 rlwnm
+    3, // 24 ori
+    3, // 25 oris
+    3, // 26 xori
+    3, // 27 xoris
+    3, // 28 andi.
+    3, // 29 andis.
+    0, // 30
+    0, // 31 by extended opcode
+    5, // 32 lwz
+    3, // 33 lwzu
+    5, // 34 lbz
+    3, // 35 lbzu
+    5, // 36 stw
+    3, // 37 stwu
+    5, // 38 stb
+    3, // 39 stbu
+    5, // 40 lhz
+    3, // 41 lhzu
+    5, // 42 lha
+    3, // 43 lhau
+    5, // 44 sth
+    3, // 45 sthu
+    5, // 46 lmw
+    5, // 47 stmw
+    4, // 48 lfs
+    2, // 49 lfsu
+    4, // 50 lfd
+    2, // 51 lfdu
+    4, // 52 stfs
+    2, // 53 stfsu
+    4, // 54 stfd
+    2, // 55 stfdu
+    0, // 56
+    0, // 57
+    0, // 58
+    0, // 59
+    0, // 60
+    0, // 61
+    0, // 62
+    0, // 63
 ];
 
 // By extended opcode under 31: the four lowest bits of a code, sixteen to a number, the first in its lowest digit. (A constant table is
