@@ -1,14 +1,16 @@
 -- Scans and pairs, case by case, in the form of a contract. Assumes nothing.
 use Prim.Native.Nat.{ℕ, _+_, _-_, _≤_, _<_}
 use mathlib.Core.Path.{_≡_, sym, _∙_, ap}
-use mathlib.Core.Bool.{Bool, true, false, or-false}
+use mathlib.Core.Bool.{Bool, true, false, _&&_, _||_, or-false}
 use mathlib.Core.List.{List, [], _∷_}
 use lib.ListN.{length, drop, getD}
-use Rattle.rules.specs.Choice.{if-true, if-false}
+use Rattle.rules.specs.Choice.{if, if-true, if-false}
 use Rattle.rules.specs.Bytes.{word-of, words-in, words-at}
-use Rattle.rules.specs.Sequences.{is-end-of-seq, scan, is-pair, check-sequence, Pair}
+use Rattle.rules.specs.Sequences.{is-end-of-seq, scan, prologue-pairs, epilogue-pairs, check-prologue-sequence, check-epilogue-sequence}
+use Rattle.rules.specs.Words.{is-stwu, is-mflr, is-mtlr, is-or}
 use Rattle.rules.proofs.Bytes.{one-word, no-word, words-below, words-from}
-use Rattle.ppc.specs.Tests.{test}
+use Rattle.ppc.specs.Tests.{test, IsFirst}
+use Rattle.ppc.specs.declared.sequences.First.{First}
 
 -- a word, from its four bytes
 pub word-is : (l : List ℕ) (i a b c d : ℕ) → i + 4 ≤ length l → a ≡ getD l i 0 → b ≡ getD l (i + 1) 0 → c ≡ getD l (i + 2) 0 → d ≡ getD l (i + 3) 0
@@ -29,29 +31,60 @@ module _ (t w : ℕ) (l ws whole : List ℕ) (same : scan (test t) l ≡ scan (t
 pub scan-ended : (t i : ℕ) (l whole : List ℕ) → scan (test t) (words-in (drop i l)) ≡ scan (test t) whole → length l < i + 4 → false ≡ scan (test t) whole
 scan-ended t i l whole same h = ap (scan (test t)) (sym (no-word l i h)) ∙ same
 
--- a pair, by whether its first test holds
-module _ (f g w : ℕ) (ws : List ℕ) (b : Bool) (is : b ≡ test f w) where
-  pub pair-scan : (r : Bool) → b ≡ true → r ≡ scan (test g) ws → r ≡ is-pair (test f) (test g) (w ∷ ws)
-  pair-scan r h e = rw (sym is ∙ h) e
+-- the first word at an address
+module _ {base a : ℕ} {l : List ℕ} (r : First) where
+  none-first : r .some ≡ false → words-at base l a ≡ [] → IsFirst base l a r
+  none-first h e = record { words = e ∙ sym (if-false h _ _) }
 
-  pub pair-none : b ≡ false → false ≡ is-pair (test f) (test g) (w ∷ ws)
-  pair-none h = rw (sym is ∙ h)
+  pub below-section : r .some ≡ false → a < base → IsFirst base l a r
+  below-section h k = none-first h (words-below base l a k)
 
--- three pairs: none fits where there are no words, and else the first that fits is the answer
-module _ (p q s : Pair) (base a : ℕ) (l : List ℕ) where
-  pub below-section : a < base → false ≡ check-sequence (p ∷ q ∷ s ∷ []) (words-at base l a)
-  below-section h = rw (words-below base l a h)
+  pub past-section : r .some ≡ false → base ≤ a → length l < a - base + 4 → IsFirst base l a r
+  past-section h k e = none-first h (words-from base l a k ∙ no-word l (a - base) e)
 
-  pub past-section : base ≤ a → length l < a - base + 4 → false ≡ check-sequence (p ∷ q ∷ s ∷ []) (words-at base l a)
-  past-section h k = rw (words-from base l a h, no-word l (a - base) k)
+  pub in-section : r .some ≡ true → base ≤ a → words-in (drop (a - base) l) ≡ r .word ∷ words-in (drop (r .from) l) → IsFirst base l a r
+  in-section h k e = record { words = words-from base l a k ∙ e ∙ sym (if-true h _ _) }
 
-  module _ (ws : List ℕ) (at : base ≤ a) (word : words-in (drop (a - base) l) ≡ ws) (b : Bool) (one : b ≡ is-pair (p .first) (p .second) ws) where
-    pub first-fits : b ≡ true → true ≡ check-sequence (p ∷ q ∷ s ∷ []) (words-at base l a)
-    first-fits h = rw (words-from base l a at, word, sym one ∙ h)
+-- a pair, by whether its first word is there
+pub pair-scan : (first b r : Bool) → first ≡ true → r ≡ b → r ≡ (first && b)
+pair-scan first b r h e = rw h e
 
-    module _ (left : b ≡ false) (d : Bool) (two : d ≡ is-pair (q .first) (q .second) ws) where
-      pub second-fits : d ≡ true → true ≡ check-sequence (p ∷ q ∷ s ∷ []) (words-at base l a)
-      second-fits h = rw (words-from base l a at, word, sym one ∙ left, sym two ∙ h)
+pub pair-none : (first b : Bool) → first ≡ false → false ≡ (first && b)
+pair-none first b h = rw h
 
-      pub third-decides : (r : Bool) → d ≡ false → r ≡ is-pair (s .first) (s .second) ws → r ≡ check-sequence (p ∷ q ∷ s ∷ []) (words-at base l a)
-      third-decides r h three = rw (words-from base l a at, word, sym one ∙ left, sym two ∙ h, or-false) three
+-- one of three, by the answers so far: x, y and z are the pairs, a, b and r what was answered for them
+module _ (x y z a : Bool) (one : a ≡ x) where
+  pub first-fits : a ≡ true → true ≡ (x || (y || (z || false)))
+  first-fits h = rw (sym one ∙ h)
+
+  module _ (left : a ≡ false) (b : Bool) (two : b ≡ y) where
+    pub second-fits : b ≡ true → true ≡ (x || (y || (z || false)))
+    second-fits h = rw (sym one ∙ left, sym two ∙ h)
+
+    pub third-decides : (r : Bool) → b ≡ false → r ≡ z → r ≡ (x || (y || (z || false)))
+    third-decides r h e = rw (sym one ∙ left, sym two ∙ h, or-false) e
+
+-- the words from an address on, by the first of them
+pub first-some : {base a : ℕ} {l : List ℕ} {f : First} → IsFirst base l a f → f .some ≡ true → words-at base l a ≡ f .word ∷ words-in (drop (f .from) l)
+first-some r h = r .words ∙ if-true h _ _
+
+pub first-none : {base a : ℕ} {l : List ℕ} {f : First} → IsFirst base l a f → f .some ≡ false → words-at base l a ≡ []
+first-none r h = r .words ∙ if-false h _ _
+
+-- whole sequences: x, y and z are whether their first words are there
+module _ (w : ℕ) (ws all : List ℕ) (x y z r : Bool) (are : all ≡ w ∷ ws) where
+  pub prologue-is : x ≡ is-stwu w → y ≡ is-mflr w → z ≡ is-mflr w → r ≡ ((x && scan (test 1) ws) || ((y && scan (test 2) ws) || ((z && scan (test 0) ws) || false))) → r ≡ check-prologue-sequence all
+  unfolding check-prologue-sequence prologue-pairs test if
+  prologue-is ex ey ez e = e ∙ rw (ex, ey, ez, are)
+
+  pub epilogue-is : x ≡ is-mtlr w → y ≡ is-mtlr w → z ≡ is-or w → r ≡ ((x && scan (test 4) ws) || ((y && scan (test 5) ws) || ((z && scan (test 3) ws) || false))) → r ≡ check-epilogue-sequence all
+  unfolding check-epilogue-sequence epilogue-pairs test if
+  epilogue-is ex ey ez e = e ∙ rw (ex, ey, ez, are)
+
+pub no-prologue : (all : List ℕ) → all ≡ [] → false ≡ check-prologue-sequence all
+unfolding check-prologue-sequence prologue-pairs
+no-prologue all e = rw e
+
+pub no-epilogue : (all : List ℕ) → all ≡ [] → false ≡ check-epilogue-sequence all
+unfolding check-epilogue-sequence epilogue-pairs
+no-epilogue all e = rw e

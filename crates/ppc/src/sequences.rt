@@ -1,10 +1,10 @@
 // Prologue and epilogue sequences in the bytes of a section.
 ghost use mathlib.Core.Path.{_≡_};
-ghost use mathlib.Core.List.{[], _∷_};
+ghost use mathlib.Core.Bool.{_&&_};
 ghost use lib.ListN.{drop};
 ghost use Rattle.rules.specs.Bytes.{words-in, words-at};
 ghost use Rattle.rules.specs.Sequences as rules;
-ghost use Rattle.ppc.specs.Tests.{test, pair-of};
+ghost use Rattle.ppc.specs.Tests.{test, IsFirst, sequence};
 use crate::fields::field;
 use crate::registers::code;
 use crate::registers::names_low;
@@ -28,12 +28,6 @@ const MTLR: u8 = 3;
 const ADDI: u8 = 4;
 
 const OR: u8 = 5;
-
-// The word that a sequence starts with, and its partner, by the numbers of their tests.
-struct Pair {
-    first: u8,
-    second: u8,
-}
 
 // Whether a word passes the test of a number.
 fn is_test(t: u8, w: u32) -> bool
@@ -79,77 +73,107 @@ fn scan(bytes: &[u8], from: usize, second: u8) -> bool
     false
 }
 
-// Whether the word w is the first of a pair and its partner comes in the bytes from an offset on.
-fn is_pair(bytes: &[u8], from: usize, w: u32, p: Pair) -> bool
-    ensures { λ r. ⌜ r ≡ rules.is-pair (test (p .first)) (test (p .second)) (w ∷ words-in (drop from (now (bytes .entry)))) ⌝ }
-{
-    if is_test(p.first, w) {
-        return scan(bytes, from, p.second);
-    }
-    false
+// The word at an address of a section that starts at base, and where the words after it lie; none outside the section.
+struct First {
+    some: bool,
+    word: u32,
+    from: usize,
 }
 
-// Whether the words from an address on begin one of three sequences, tried in this order. The section starts at base; outside it
-// there are no words.
-fn check_sequence(bytes: &[u8], base: u32, addr: u32, p: Pair, q: Pair, s: Pair) -> bool
-    ensures { λ r. ⌜ r ≡ rules.check-sequence (pair-of p ∷ pair-of q ∷ pair-of s ∷ []) (words-at base (now (bytes .entry)) addr) ⌝ }
+fn first_word(bytes: &[u8], base: u32, addr: u32) -> First
+    ensures { λ r. ⌜ IsFirst base (now (bytes .entry)) addr r ⌝ }
 {
+    let none = First {
+        some: false,
+        word: 0,
+        from: 0,
+    };
     if addr < base {
-        return false;
+        return none;
     }
     if bytes.len() < 4 {
-        return false;
+        return none;
     }
     let at = (addr - base) as usize;
     if bytes.len() - 4 < at {
-        return false;
+        return none;
     }
-    let w = word_at(bytes, at);
-    if is_pair(bytes, at + 4, w, p) {
-        return true;
+    First {
+        some: true,
+        word: word_at(bytes, at),
+        from: at + 4,
     }
-    if is_pair(bytes, at + 4, w, q) {
-        return true;
-    }
-    // With a second caller `scan` stays a function of its own, and a word that begins nothing costs no call.
-    if is_test(s.first, w) {
-        return scan(bytes, at + 4, s.second);
+}
+
+// Three sequences, tried in this order: whether their first word is there, and the numbers of their partners' tests.
+struct Pairs {
+    first: bool,
+    partner: u8,
+    second: bool,
+    other: u8,
+    third: bool,
+    last: u8,
+}
+
+// Whether the first word of a sequence is there, and its partner in the words after it.
+fn is_pair(bytes: &[u8], from: usize, first: bool, second: u8) -> bool
+    ensures { λ r. ⌜ r ≡ (first && rules.scan (test second) (words-in (drop from (now (bytes .entry))))) ⌝ }
+{
+    if first {
+        return scan(bytes, from, second);
     }
     false
 }
 
-pub fn check_prologue_sequence(bytes: &[u8], base: u32, addr: u32) -> bool
-    ensures { λ r. ⌜ r ≡ rules.check-prologue-sequence (words-at base (now (bytes .entry)) addr) ⌝ }
+// Whether one of three sequences is there.
+fn check_sequence(bytes: &[u8], from: usize, p: Pairs) -> bool
+    ensures { λ r. ⌜ r ≡ sequence p (words-in (drop from (now (bytes .entry)))) ⌝ }
 {
-    let saved = Pair {
-        first: STWU,
-        second: MFLR,
-    };
-    let link = Pair {
-        first: MFLR,
-        second: STW,
-    };
-    let frame = Pair {
-        first: MFLR,
-        second: STWU,
-    };
-    check_sequence(bytes, base, addr, saved, link, frame)
+    if is_pair(bytes, from, p.first, p.partner) {
+        return true;
+    }
+    if is_pair(bytes, from, p.second, p.other) {
+        return true;
+    }
+    is_pair(bytes, from, p.third, p.last)
 }
 
-pub fn check_epilogue_sequence(bytes: &[u8], base: u32, addr: u32) -> bool
+// Whether a prologue begins at an address. (For C and Rust the bytes are two arguments, their address and their length.)
+#[no_mangle]
+pub extern "C" fn check_prologue_sequence(bytes: &[u8], base: u32, addr: u32) -> bool
+    ensures { λ r. ⌜ r ≡ rules.check-prologue-sequence (words-at base (now (bytes .entry)) addr) ⌝ }
+{
+    let f = first_word(bytes, base, addr);
+    if f.some {
+        let pairs = Pairs {
+            first: is_stwu(f.word),
+            partner: MFLR,
+            second: is_mflr(f.word),
+            other: STW,
+            third: is_mflr(f.word),
+            last: STWU,
+        };
+        return check_sequence(bytes, f.from, pairs);
+    }
+    false
+}
+
+// Whether an epilogue begins at an address.
+#[no_mangle]
+pub extern "C" fn check_epilogue_sequence(bytes: &[u8], base: u32, addr: u32) -> bool
     ensures { λ r. ⌜ r ≡ rules.check-epilogue-sequence (words-at base (now (bytes .entry)) addr) ⌝ }
 {
-    let add = Pair {
-        first: MTLR,
-        second: ADDI,
-    };
-    let copy = Pair {
-        first: MTLR,
-        second: OR,
-    };
-    let link = Pair {
-        first: OR,
-        second: MTLR,
-    };
-    check_sequence(bytes, base, addr, add, copy, link)
+    let f = first_word(bytes, base, addr);
+    if f.some {
+        let pairs = Pairs {
+            first: is_mtlr(f.word),
+            partner: ADDI,
+            second: is_mtlr(f.word),
+            other: OR,
+            third: is_or(f.word),
+            last: MTLR,
+        };
+        return check_sequence(bytes, f.from, pairs);
+    }
+    false
 }

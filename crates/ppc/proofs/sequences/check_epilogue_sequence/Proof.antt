@@ -1,14 +1,42 @@
 -- `ppc::sequences::check_epilogue_sequence` is that of `rules`: the numbers are those of its tests. Assumes nothing.
-use Rattle.rules.specs.Choice.{if}
-use Rattle.rules.specs.Sequences.{check-epilogue-sequence, epilogue-pairs}
-use Rattle.ppc.specs.Tests.{test}
+use Rattle.ppc.proofs.Scan.{epilogue-is, no-epilogue, first-some, first-none}
 use borrow.Author.Needs.{needs}
 use Rattle.ppc.proofs.sequences.check_epilogue_sequence.Statement.{statement}
 use Rattle.ppc.proofs.sequences.check_epilogue_sequence.Tie as tie
+use Rattle.ppc.proofs.sequences.check_sequence.Reads as check-sequence-reads
+use Rattle.ppc.proofs.sequences.first_word.Reads as first-word-reads
+use Rattle.ppc.proofs.words.is_mtlr.Reads as is-mtlr-reads
+use Rattle.ppc.proofs.words.is_or.Reads as is-or-reads
+
+first-word-requires : tie.Need-first-word-requires
+first-word-requires c κs = search needs
+
+is-mtlr-requires : tie.Need-is-mtlr-requires
+is-mtlr-requires c κs = search needs
+
+is-mtlr-requires-2 : tie.Need-is-mtlr-requires-2
+is-mtlr-requires-2 c κs = search needs
+
+is-or-requires : tie.Need-is-or-requires
+is-or-requires c κs = search needs
+
+check-sequence-requires : tie.Need-check-sequence-requires
+check-sequence-requires c κs = search needs
 
 returns : tie.Need-returns
-unfolding check-epilogue-sequence epilogue-pairs test if
-returns c = c .check-sequence .ensures
+returns c = search (needs, epilogue-is, first-some)
+
+returns-2 : tie.Need-returns-2
+returns-2 c = search (needs, no-epilogue, first-none)
 
 pub check-epilogue-sequence-spec : {M : Type 1} → statement M
-check-epilogue-sequence-spec = tie.close (tie.spec (λ c κs. search needs) returns)
+check-epilogue-sequence-spec =
+    tie.close
+    (tie.spec
+    first-word-requires
+    is-mtlr-requires
+    is-mtlr-requires-2
+    is-or-requires
+    check-sequence-requires
+    returns
+    returns-2)

@@ -1,52 +1,29 @@
--- `ppc::sequences::check_sequence` is that of `rules`, for three pairs. Assumes nothing.
-use Prim.Native.Nat.{_+_, _-_, _<_}
-use native.Mathlib.Omega.{arith}
-use denote.Ref.{now}
-use lib.ListN.{length}
-use Rattle.ppc.proofs.Scan.{below-section, past-section, first-fits, second-fits, third-decides, pair-scan, pair-none}
+-- `ppc::sequences::check_sequence`: the first of three that is there. Assumes nothing.
+use Rattle.ppc.proofs.Scan.{first-fits, second-fits, third-decides}
 use borrow.Author.Needs.{needs}
 use Rattle.ppc.proofs.sequences.check_sequence.Statement.{statement}
 use Rattle.ppc.proofs.sequences.check_sequence.Tie as tie
+use Rattle.ppc.proofs.sequences.is_pair.Reads as is-pair-reads
+
+is-pair-requires : tie.Need-is-pair-requires
+is-pair-requires c κs = search needs
 
 returns : tie.Need-returns
-returns c = search (needs, below-section)
+returns c = search (needs, first-fits)
+
+is-pair-requires-2 : tie.Need-is-pair-requires-2
+is-pair-requires-2 c κs = search needs
 
 returns-2 : tie.Need-returns-2
-returns-2 c = let a = c .before .before .before .args in let h : length (now (a .bytes)) < a .addr - a .base + 4 = omega arith in search (needs, past-section)
+returns-2 c = search (needs, second-fits)
+
+is-pair-requires-3 : tie.Need-is-pair-requires-3
+is-pair-requires-3 c κs = search needs
 
 returns-3 : tie.Need-returns-3
-returns-3 c = let a = c .before .before .before .before .args in let h : length (now (a .bytes)) < a .addr - a .base + 4 = omega arith in search (needs, past-section)
-
-returns-4 : tie.Need-returns-4
-returns-4 c = search (needs, first-fits)
-
-returns-5 : tie.Need-returns-5
-returns-5 c = search (needs, second-fits)
-
-returns-6 : tie.Need-returns-6
-returns-6 c = search (needs, third-decides, pair-scan)
-
-returns-7 : tie.Need-returns-7
-returns-7 c = search (needs, third-decides, pair-none)
+returns-3 c = search (needs, third-decides)
 
 pub check-sequence-spec : {M : Type 1} → statement M
 check-sequence-spec =
     tie.close
-    (tie.spec
-    returns
-    returns-2
-    (λ c. search needs)
-    (λ c. search needs)
-    returns-3
-    (λ c κs. search needs)
-    (λ c. search needs)
-    (λ c κs. search needs)
-    returns-4
-    (λ c. search needs)
-    (λ c κs. search needs)
-    returns-5
-    (λ c κs. search needs)
-    (λ c. search needs)
-    (λ c κs. search needs)
-    returns-6
-    returns-7)
+    (tie.spec is-pair-requires returns is-pair-requires-2 returns-2 is-pair-requires-3 returns-3)
