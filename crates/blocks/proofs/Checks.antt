@@ -1,16 +1,19 @@
 -- What the tests of a table ensure at each return.
-use mathlib.Core.Path.{_≡_, sym, ap, _∙_}
-use mathlib.Core.List.{List}
+use mathlib.Core.Path.{_≡_, refl, sym, _∙_}
+use mathlib.Core.List.{List, [], _∷_}
 use mathlib.Core.Bool.{Bool, true, false, _&&_, _||_}
-use Prim.Native.Nat.{ℕ, suc, _+_, _%_, _<_, _≤_}
+use Prim.Native.Nat.{ℕ, suc, _+_, _*_, _/_, _%_, _<_, _≤_, max}
 use native.Mathlib.Numerals.{add-one}
 use native.Mathlib.Omega.{arith}
-use lib.Dec.{ltb}
+use lib.Dec.{ltb, leb}
+use lib.Bits.{bitOr, or-step}
+use native.Mathlib.Decide.{decLt, ℕ-discrete as decEq}
 use lib.ListN.{length, drop, getD, drop-of-length-le}
-use borrow.Author.Tests.{eq-eqb, ne-eqb}
+use borrow.Author.Tests.{eq-eqb, ne-eqb, le-leb, lt-leb, lt-ltb, le-ltb}
 use Rattle.rules.specs.Blocks.{Block, block, apart, first-disconnected-block, is-block, starts-above, is-table}
-use Rattle.rules.proofs.Blocks.{none, apart-here, apart-later, apart-never, table-later, table-not, starts-above-at, starts-above-end}
-use Rattle.blocks.specs.Table.{rows, row-holds}
+use Rattle.rules.proofs.Blocks.{none, apart-here, apart-later, apart-never}
+use Rattle.blocks.specs.Table.{rows}
+use lib.Seq.{drop-cons}
 use Rattle.blocks.proofs.Rows.{length-rows, row-at}
 
 -- an `or` whose left side is false
@@ -31,48 +34,100 @@ module _ (s e : ℕ) where
     pub closed-block : e % 4 ≡ 0 → (e ≡ 0 → ⊥) → ltb s e ≡ is-block (block s e)
     closed-block h z = sym (rw (eq-eqb (s % 4) 0 aligned, eq-eqb (e % 4) 0 h, ne-eqb e 0 z))
 
--- the rows of two slices, at index i
-module _ (n i : ℕ) (ss es : List ℕ) (h : i < n) (hs : n ≤ length ss) (he : n ≤ length es) where
-  here : getD (rows n ss es) i none ≡ block (getD ss i 0) (getD es i 0)
-  here = row-at n ss es hs he i h
+-- the two lowest bits of both, joined
+or-four : (a b : ℕ) → bitOr a b % 4 ≡ 2 * max (a / 2 % 2) (b / 2 % 2) + max (a % 2) (b % 2)
+or-four a b = omega (arith, or-step a b, or-step (a / 2) (b / 2))
 
-  holds : row-holds (rows n ss es) i ≡ (is-block (block (getD ss i 0) (getD es i 0)) && starts-above (getD ss i 0) (drop (suc i) (rows n ss es)))
-  holds = ap (λ (b : Block). is-block b && starts-above (b .start) (drop (suc i) (rows n ss es))) here
+two-bits : (a : ℕ) → a % 4 ≡ 2 * (a / 2 % 2) + a % 2
+two-bits a = omega arith
 
-  pub row-not : (b : Bool) → b ≡ is-block (block (getD ss i 0) (getD es i 0)) → b ≡ false → false ≡ row-holds (rows n ss es) i
-  row-not b e f = sym (holds ∙ ap (λ (t : Bool). t && starts-above (getD ss i 0) (drop (suc i) (rows n ss es))) (sym e ∙ f))
+-- joined bits are clear where those of both are
+clear-both : (p q u v : ℕ) → 2 * max p q + max u v ≡ 0 → (2 * p + u ≡ 0) × (2 * q + v ≡ 0)
+clear-both p q u v h = (omega arith, omega arith)
 
-  pub row-next : (b : Bool) (j : ℕ) → b ≡ is-block (block (getD ss i 0) (getD es i 0)) → b ≡ true → j ≡ i + 1 → j < n → ltb (getD ss i 0) (getD ss j 0) ≡ row-holds (rows n ss es) i
-  row-next b j e t next lt =
+both-clear : (p q u v : ℕ) → 2 * p + u ≡ 0 → 2 * q + v ≡ 0 → 2 * max p q + max u v ≡ 0
+both-clear p q u v h k = omega arith
+
+aligned-both : (a b : ℕ) → bitOr a b % 4 ≡ 0 → (a % 4 ≡ 0) × (b % 4 ≡ 0)
+aligned-both a b h =
+    let c = clear-both (a / 2 % 2) (b / 2 % 2) (a % 2) (b % 2) (sym (or-four a b) ∙ h) in (two-bits a ∙ c .0, two-bits b ∙ c .1)
+
+both-aligned : (a b : ℕ) → a % 4 ≡ 0 → b % 4 ≡ 0 → bitOr a b % 4 ≡ 0
+both-aligned a b h k = or-four a b ∙ both-clear (a / 2 % 2) (b / 2 % 2) (a % 2) (b % 2) (sym (two-bits a) ∙ h) (sym (two-bits b) ∙ k)
+
+-- m is one less than the end, or the highest number
+module _ (s e : ℕ) where
+  pub unaligned-block : (bitOr s e % 4 ≡ 0 → ⊥) → false ≡ is-block (block s e)
+  unaligned-block n = by (decEq (s % 4) 0)
+    where
+      by : Dec (s % 4 ≡ 0) → false ≡ is-block (block s e)
+      by (yes h) = no-block-end s e h (λ k. n (both-aligned s e h k))
+      by (no h) = no-block-start s e h
+
+  pub aligned-block : (m : ℕ) → s < 18446744073709551616 → m < 18446744073709551616 → (m + 1) % 18446744073709551616 ≡ e → bitOr s e % 4 ≡ 0 → leb s m ≡ is-block (block s e)
+  aligned-block m hs hm back h = by (decEq e 0)
+    where
+      a : s % 4 ≡ 0
+      a = aligned-both s e h .0
+
+      b : e % 4 ≡ 0
+      b = aligned-both s e h .1
+
+      by : Dec (e ≡ 0) → leb s m ≡ is-block (block s e)
+      by (yes z) = le-leb s m (omega arith) ∙ open-block s e a b z
+      by (no z) = let k : m + 1 ≡ e = omega arith in same k ∙ closed-block s e a b z
+        where
+          same : m + 1 ≡ e → leb s m ≡ ltb s e
+          same k = go (decLt s e)
+            where
+              go : Dec (s < e) → leb s m ≡ ltb s e
+              go (yes l) = le-leb s m (omega arith) ∙ sym (lt-ltb s e l)
+              go (no l) = lt-leb s m (omega arith) ∙ sym (le-ltb s e (omega arith))
+
+-- the first start, if there is one, is b or more
+abbrev pub reaches : ℕ → List Block → Bool
+reaches b [] = true
+reaches b (r ∷ l) = leb b (r .start)
+
+above-reaches : (k : ℕ) (l : List Block) → starts-above k l ≡ reaches (k + 1) l
+above-reaches k [] = refl
+above-reaches k (r ∷ l) = by (decLt k (r .start))
+  where
+    by : Dec (k < r .start) → ltb k (r .start) ≡ leb (k + 1) (r .start)
+    by (yes h) = lt-ltb k (r .start) h ∙ sym (le-leb (k + 1) (r .start) (omega arith))
+    by (no h) = le-ltb k (r .start) (omega arith) ∙ sym (lt-leb (k + 1) (r .start) (omega arith))
+
+pub table-starts : (bs : List Block) → is-table bs ≡ (reaches 0 bs && is-table bs)
+table-starts [] = refl
+table-starts (r ∷ l) = rw (le-leb 0 (r .start) (omega arith)) refl
+
+-- at index i, where b is what the next start must reach
+module _ (n i b : ℕ) (ss es : List ℕ) (h : i < n) (hs : n ≤ length ss) (he : n ≤ length es) (so-far : is-table (rows n ss es) ≡ (reaches b (drop i (rows n ss es)) && is-table (drop i (rows n ss es)))) where
+  here : drop i (rows n ss es) ≡ block (getD ss i 0) (getD es i 0) ∷ drop (suc i) (rows n ss es)
+  here =
       let long : length (rows n ss es) ≡ n = length-rows n ss es hs he in
-      let at : j ≡ suc i = next ∙ add-one i in
-      sym (holds
-      ∙ ap (λ (t : Bool). t && starts-above (getD ss i 0) (drop (suc i) (rows n ss es))) (sym e ∙ t)
-      ∙ starts-above-at (getD ss i 0) (rows n ss es) (suc i) (omega arith)
-      ∙ ap (λ (r : Block). ltb (getD ss i 0) (r .start)) (row-at n ss es hs he (suc i) (omega arith))
-      ∙ rw at)
+      drop-cons (rows n ss es) i none (omega arith) ∙ rw (row-at n ss es hs he i h) refl
 
-  pub row-last : (b : Bool) → b ≡ is-block (block (getD ss i 0) (getD es i 0)) → b ≡ true → n ≤ i + 1 → true ≡ row-holds (rows n ss es) i
-  row-last b e t end =
-      let long : length (rows n ss es) ≡ n = length-rows n ss es hs he in
-      sym (holds
-      ∙ ap (λ (t : Bool). t && starts-above (getD ss i 0) (drop (suc i) (rows n ss es))) (sym e ∙ t)
-      ∙ starts-above-end (getD ss i 0) (rows n ss es) (suc i) (omega arith))
+  whole : is-table (rows n ss es) ≡ (leb b (getD ss i 0) && (is-block (block (getD ss i 0) (getD es i 0)) && starts-above (getD ss i 0) (drop (suc i) (rows n ss es)) && is-table (drop (suc i) (rows n ss es))))
+  whole = so-far ∙ rw here refl
 
-  pub table-next : (b : Bool) → b ≡ row-holds (rows n ss es) i → b ≡ true → is-table (rows n ss es) ≡ is-table (drop i (rows n ss es)) → is-table (rows n ss es) ≡ is-table (drop (i + 1) (rows n ss es))
-  table-next b e t so-far =
-      let long : length (rows n ss es) ≡ n = length-rows n ss es hs he in
-      rw (add-one i) (so-far ∙ table-later (rows n ss es) i (omega arith) (sym e ∙ t))
+  pub table-low : getD ss i 0 < b → false ≡ is-table (rows n ss es)
+  table-low l = sym (whole ∙ rw (lt-leb b (getD ss i 0) l))
 
-  pub table-fails : (b : Bool) → b ≡ row-holds (rows n ss es) i → b ≡ false → is-table (rows n ss es) ≡ is-table (drop i (rows n ss es)) → false ≡ is-table (rows n ss es)
-  table-fails b e t so-far =
-      let long : length (rows n ss es) ≡ n = length-rows n ss es hs he in
-      sym (so-far ∙ table-not (rows n ss es) i (omega arith) (sym e ∙ t))
+  pub table-fails : (t : Bool) → t ≡ is-block (block (getD ss i 0) (getD es i 0)) → t ≡ false → b ≤ getD ss i 0 → false ≡ is-table (rows n ss es)
+  table-fails t e f l = sym (whole ∙ rw (le-leb b (getD ss i 0) l, sym e ∙ f))
 
-pub table-passes : (n i : ℕ) (ss es : List ℕ) → n ≤ length ss → n ≤ length es → n ≤ i → is-table (rows n ss es) ≡ is-table (drop i (rows n ss es)) → true ≡ is-table (rows n ss es)
-table-passes n i ss es hs he end so-far =
+  pub table-next : (t : Bool) → t ≡ is-block (block (getD ss i 0) (getD es i 0)) → t ≡ true → b ≤ getD ss i 0 → is-table (rows n ss es) ≡ (reaches (getD ss i 0 + 1) (drop (i + 1) (rows n ss es)) && is-table (drop (i + 1) (rows n ss es)))
+  table-next t e f l = whole ∙ rw (le-leb b (getD ss i 0) l, sym e ∙ f, above-reaches (getD ss i 0) (drop (suc i) (rows n ss es)), add-one i)
+
+pub table-passes : (n i b : ℕ) (ss es : List ℕ) → n ≤ length ss → n ≤ length es → n ≤ i → is-table (rows n ss es) ≡ (reaches b (drop i (rows n ss es)) && is-table (drop i (rows n ss es))) → true ≡ is-table (rows n ss es)
+table-passes n i b ss es hs he end so-far =
     let long : length (rows n ss es) ≡ n = length-rows n ss es hs he in
-    sym (so-far ∙ ap is-table (drop-of-length-le (rows n ss es) {i = i} (omega arith)))
+    sym (so-far ∙ rw (drop-of-length-le (rows n ss es) {i = i} (omega arith)))
+
+-- one more than a multiple of 4 fits
+pub aligned-fits : (s e : ℕ) → bitOr s e % 4 ≡ 0 → s < 18446744073709551616 → s + 1 < 18446744073709551616
+aligned-fits s e h below = let a : s % 4 ≡ 0 = aligned-both s e h .0 in omega arith
 
 module _ (s e t u : ℕ) where
   pub open-first : e ≡ 0 → false ≡ apart (block s e) (block t u)

@@ -1,13 +1,13 @@
 -- The table of blocks in two lent slices, starts and ends, of which the first n elements are in use.
 use mathlib.Core.Path.{_≡_}
 use mathlib.Core.List.{List}
-use mathlib.Core.Bool.{Bool, true, false, _&&_}
-use Prim.Native.Nat.{ℕ, suc, _<_, _≤_}
+use mathlib.Core.Bool.{Bool, true, false}
+use Prim.Native.Nat.{ℕ, _<_, _≤_}
 use lib.Dec.{ltb}
-use lib.ListN.{length, take, drop, getD}
+use lib.ListN.{length, take, drop}
 use Rattle.rules.specs.Choice.{if}
 use Rattle.rules.specs.Ordered.{put, Rising}
-use Rattle.rules.specs.Blocks.{Block, block, startOf, below, reaches, mark, is-new, is-block, starts-above}
+use Rattle.rules.specs.Blocks.{Block, block, startOf, below, reaches, mark, is-new}
 use Rattle.ordered.specs.Columns.{join}
 use Rattle.ordered.specs.Part.{IsFound}
 use Rattle.ordered.specs.declared.Found.{Found}
@@ -18,10 +18,6 @@ use Rattle.blocks.specs.declared.Added.the-variants.{Yes, No, Full}
 -- the blocks that the first n elements hold
 abbrev pub rows : ℕ → List ℕ → List ℕ → List Block
 rows n ss es = join block (take n ss) (take n es)
-
--- the row at i is a block, and starts below the next
-abbrev pub row-holds : List Block → ℕ → Bool
-row-holds bs i = is-block (getD bs i (block 0 0)) && starts-above (getD bs i (block 0 0) .start) (drop (suc i) bs)
 
 -- both slices hold n rows, and their starts ascend
 pub record Table (n : ℕ) (ss es : List ℕ) : Type 0 where

@@ -1,13 +1,13 @@
 // The table of a function's basic blocks, ascending by start: two lent slices, starts and ends. An open block ends at 0.
 ghost use mathlib.Core.Path.{_≡_};
-ghost use mathlib.Core.Bool.{_||_, false};
+ghost use mathlib.Core.Bool.{true, _||_, false};
 ghost use mathlib.Core.List.{_∷_};
-ghost use Prim.Native.Nat.{min, _<_, _≤_};
+ghost use Prim.Native.Nat.{min, _+_, _<_, _≤_};
 ghost use lib.Dec.{ltb};
 ghost use lib.ListN.{length, getD};
 ghost use Rattle.rules.specs.Ordered.{has, put};
 ghost use Rattle.rules.specs.Blocks.{block, startOf, below, cut, first-start, last-start, last-end, apart, first-disconnected-block, is-block, is-table, most-blocks};
-ghost use Rattle.blocks.specs.Table.{rows, Table, Room, Looked, Reached, Holds, IsStored, IsAdded, row-holds};
+ghost use Rattle.blocks.specs.Table.{rows, Table, Room, Looked, Reached, Holds, IsStored, IsAdded};
 ghost use Rattle.blocks.specs.Marks.{markable, mark-lent, IsAnswered, IsMarking};
 
 // Whether an address became the start of a new open block, or the table is full.
@@ -227,29 +227,11 @@ pub fn first_disconnected_block(ss: &[u64], es: &[u64], n: usize) -> BlockRange
 // Whether start and end are multiples of 4, and a closed end lies above its start.
 fn is_block(start: u64, end: u64) -> bool
     ensures { λ r. ⌜ r ≡ is-block (block start end) ⌝ }
+    ensures { λ r. ⌜ (r ≡ true → start + 1 < 18446744073709551616) ⌝ }
 {
-    if start % 4 == 0 {
-        if end % 4 == 0 {
-            if end == 0 {
-                return true;
-            }
-            return start < end;
-        }
-    }
-    false
-}
-
-// Whether the row at i is a block and starts below the next.
-fn is_row(ss: &[u64], es: &[u64], n: usize, i: usize) -> bool
-    requires { ⌜ (i < n) × (n ≤ length (now ss)) × (n ≤ length (now es)) ⌝ }
-    ensures { λ r. ⌜ r ≡ row-holds (rows n (now (ss .entry)) (now (es .entry))) i ⌝ }
-{
-    if is_block(ss[i], es[i]) {
-        let next = i + 1;
-        if next < n {
-            return ss[i] < ss[next];
-        }
-        return true;
+    if (start | end) % 4 == 0 {
+        // One less than the end, 0, of an open block wraps to the highest number.
+        return start <= std::num::wrapping_sub_u64(end, 1);
     }
     false
 }
@@ -260,8 +242,15 @@ fn is_table(ss: &[u64], es: &[u64], n: usize) -> bool
     ensures { λ r. ⌜ r ≡ is-table (rows n (now (ss .entry)) (now (es .entry))) ⌝ }
 {
     let mut i: usize = 0;
+    // What the next start must reach: a start is a multiple of 4, so one more than it fits.
+    let mut least: u64 = 0;
     while i < n {
-        if is_row(ss, es, n, i) {
+        let start = ss[i];
+        if start < least {
+            return false;
+        }
+        if is_block(start, es[i]) {
+            least = start + 1;
             i += 1;
         } else {
             return false;
