@@ -106,13 +106,6 @@ module _ (a : ℕ) (bs : List Block) (rise : Rising startOf bs) where
           ∙ length-trimmed a bs over rise
       go false free = ap length (mark-held a bs free held)
 
-  pub length-mark-le : length bs ≤ length (mark a bs)
-  length-mark-le = go (has startOf a bs) refl
-    where
-      go : (b : Bool) → has startOf a bs ≡ b → length bs ≤ length (mark a bs)
-      go true h = omega (arith, length-mark-old h)
-      go false h = omega (arith, length-mark-new h)
-
   pub mark-rising : Rising startOf (mark a bs)
   unfolding cut
   mark-rising = go (reaches a bs) (has startOf a bs) refl refl

@@ -16,6 +16,7 @@ use Rattle.rules.specs.Map
 use Rattle.rules.specs.Map.{Capacity, Round, round, to-do}
 use Rattle.rules.specs.Accounted.{AllWords}
 use Rattle.rules.proofs.Sizes
+use Rattle.rules.proofs.Ordered.{length-put-new}
 use Rattle.rules.proofs.Placed.{Checked, Placed, Table, finalize-functions-map, process-step-map}
 use Rattle.rules.proofs.Passes.{code-from-low}
 use Rattle.rules.proofs.Searched.{Search, IsWalked, search}
@@ -32,7 +33,7 @@ module _ (im : Image.Image) (cap : Capacity) where
   add-entries-all (k ∷ ks) es r n =
       bind-holds {P = λ fs. fs ≡ put entryOf (new-entry k) es} (if-holds (λ h. absurd (n .0 (has-among entryOf k es h))) (λ _. map-holds (Sizes.limited-is _ (put entryOf (new-entry k) es)) (λ fs i. i .0)))
       (λ fs q. map-holds (add-entries-all ks fs (r .1) (rw q rest))
-      (λ gs e. let l : length fs ≡ suc (length es) = ap length q ∙ Sizes.put-new entryOf (new-entry k) es (absent (has entryOf k es) refl) in omega arith))
+      (λ gs e. let l : length fs ≡ suc (length es) = ap length q ∙ length-put-new entryOf (new-entry k) es (absent (has entryOf k es) refl) in omega arith))
     where
       rest : All (λ j. Among entryOf j (put entryOf (new-entry k) es) → ⊥) ks
       rest = all-zip ks (λ j (a : k < j) (f : Among entryOf j es → ⊥). λ m. other j a f (among-put-cases entryOf j (new-entry k) es m)) (all-above self k ks (r .0) (r .1)) (n .1)

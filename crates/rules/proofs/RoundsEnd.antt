@@ -24,7 +24,7 @@ use Rattle.rules.proofs.Sizes
 use Rattle.rules.proofs.Keeps.{set-block-puts}
 use Rattle.rules.proofs.Rows.{All, above-more}
 use Rattle.rules.proofs.Tests.{and-left, and-right}
-use Rattle.rules.proofs.Ordered.{put-rising}
+use Rattle.rules.proofs.Ordered.{put-rising, length-put-new}
 
 -- an entry at k, with at least n still to be done
 abbrev pub Waits : ℕ → ℕ → List Entry → Type 0
@@ -121,11 +121,11 @@ module _ (cap : Capacity) where
       (λ h. map-holds (Sizes.limited-is (min 1024 (cap .entries)) (put entryOf (new-entry k) es))
       (λ fs i. record {
         done =
-            let l = Sizes.put-new entryOf (new-entry k) es h in
+            let l = length-put-new entryOf (new-entry k) es h in
             let j = ap length (i .0) in
             let m = ap weights (i .0) in
             omega (arith, i .1, put-weights-most (new-entry k) es, new-weight k);
-        more = let l = Sizes.put-new entryOf (new-entry k) es h in let j = ap length (i .0) in omega arith;
+        more = let l = length-put-new entryOf (new-entry k) es h in let j = ap length (i .0) in omega arith;
         rising = rw (i .0) (put-rising entryOf (new-entry k) es r);
         waits = λ n j w. rw (i .0) (put-waits n j (new-entry k) es (λ q. absurd (false≢true (sym h ∙ (ap (λ x. has entryOf x es) q ∙ waits-has n j es w)))) w);
       }))

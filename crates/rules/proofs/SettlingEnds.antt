@@ -22,6 +22,7 @@ use Rattle.rules.specs.TailCall.{is-not, is, possibly}
 use Rattle.rules.specs.Settle
 use Rattle.rules.specs.Settle.{Settling, settling}
 use Rattle.rules.proofs.Sizes
+use Rattle.rules.proofs.Ordered.{length-put-le}
 use Rattle.rules.proofs.Keeps.{Laws, Aimed, without-few, analyze-walk-keeps}
 
 -- ---- lists of addresses
@@ -125,7 +126,7 @@ module _ (e : Around) (aimed : Aimed (e .image)) where
         starts = λ k w s _ _ _ x b. record { many = big-marked m k w s x b .many; few = big-marked m k w s x b .few };
         jumps = λ k t w s _ _ _ _ _ x b. by-if (Big m) (Step.seen (e .image) t (with-slices w s)) {x = with-slices w s} {y = with-place (with-slices w s) (at t t)}
             (λ _. big-marked m t w s x b) (λ _. record { many = big-marked m t w s x b .many; few = big-marked m t w s x b .few });
-        ends = λ k b w s h i _ q r _ x. record { many = rw q (omega (arith, Sizes.put-grows startOf (block b (k + 4)) (w .slices .blocks), x .many)); few = rw r (x .few) };
+        ends = λ k b w s h i _ q r _ x. record { many = rw q (omega (arith, length-put-le startOf (block b (k + 4)) (w .slices .blocks), x .many)); few = rw r (x .few) };
         goes-on = λ k b w h i _ _ x. record { many = x .many; few = x .few };
         passes = λ k b w h i _ _ _ x. record { many = x .many; few = x .few };
         stops = λ w x. record { many = x .many; few = x .few };
