@@ -1,0 +1,1 @@
+// What is known of an image: its checks, and its parts by address.
