@@ -12,13 +12,13 @@
 --
 -- A way is 1 to an address, 2 to a table, 3 elsewhere, and 4 more with link. A row that is not whole breaks the rules of its list.
 use Prim.Native.Nat.{ℕ, zero, suc, _+_, _-_, _/_, _%_}
-use mathlib.Core.Bool.{Bool, _&&_}
+use mathlib.Core.Bool.{_&&_}
 use mathlib.Core.List.{List, [], _∷_, _++_}
-use lib.Dec.{eqb}
+use lib.Dec.{leb, eqb}
 use lib.ListN.{length, take, drop, getD}
 use Rattle.rules.specs.Choice.{if}
-use Rattle.rules.specs.Image.{Range}
-use Rattle.rules.specs.Given.{SectionRow, BranchRow, OutcomeRow, SymbolRow, Given}
+use Rattle.rules.specs.Image.{Image, Range}
+use Rattle.rules.specs.Given.{SectionRow, BranchRow, OutcomeRow, SymbolRow, Given, image-of}
 
 pub record Lent : Type 0 where
   pub sections : List ℕ
@@ -28,6 +28,11 @@ pub record Lent : Type 0 where
   pub objects : List ℕ
   pub skips : List ℕ
   pub entry : List ℕ
+
+-- the lists together
+abbrev pub lent : List ℕ → List ℕ → List ℕ → List ℕ → List ℕ → List ℕ → List ℕ → Lent
+lent s b o f j k e =
+    record { sections = s; bytes = b; outcomes = o; functions = f; objects = j; skips = k; entry = e }
 
 -- n rows of w numbers each
 abbrev pub rows-from : {A : Type 0} → ℕ → (List ℕ → A) → ℕ → List ℕ → List A
@@ -52,8 +57,8 @@ branch-row way a = if (eqb way 0 && eqb a 0) [] (record { link = way / 4; to = t
 -- an outcome; one that is not whole has no kind
 abbrev pub outcome-row : List ℕ → OutcomeRow
 outcome-row c =
-    if (eqb (getD c 0 0) 6)
-    (record { kind = if (eqb (length c) 6) 6 7; mark = getD c 1 0; address = 0; size = 0; branches = branch-row (getD c 2 0) (getD c 3 0) ++ branch-row (getD c 4 0) (getD c 5 0) })
+    if (leb 6 (getD c 0 0))
+    (record { kind = if (eqb (length c) 6) (getD c 0 0) 7; mark = getD c 1 0; address = 0; size = 0; branches = branch-row (getD c 2 0) (getD c 3 0) ++ branch-row (getD c 4 0) (getD c 5 0) })
     (record { kind = if (eqb (length c) 6) (getD c 0 0) 7; mark = getD c 1 0; address = getD c 2 0; size = getD c 3 0; branches = branch-row (getD c 4 0) (getD c 5 0) })
 
 -- a symbol; one that is not whole is not aligned
@@ -75,3 +80,11 @@ given l =
       skips = rows 2 skip-row (l .skips);
       entries = l .entry;
     }
+
+-- the image that the lists stand for
+abbrev pub image : Lent → Image
+image l = image-of (given l)
+
+-- where the sections alone are lent
+abbrev pub seen : List ℕ → Image
+seen s = image (lent s [] [] [] [] [] [])
