@@ -1,7 +1,7 @@
 -- The code section of an image, from the rows of its sections. Assumes nothing.
 use Prim.Native.Nat.{ℕ, zero, suc, _+_, _*_, _-_, _/_, _≤_}
 use mathlib.Core.Path.{_≡_, refl, sym, ap, _∙_}
-use mathlib.Core.Bool.{Bool, true, false, _&&_}
+use mathlib.Core.Bool.{Bool, true, false, _&&_, and-false}
 use mathlib.Core.List.{List, [], _∷_}
 use native.Mathlib.Omega.{arith}
 use lib.Dec.{leb, eqb}
@@ -124,11 +124,7 @@ module _ (a : ℕ) where
   row-contains (r ∷ rs) b (suc i) x t e = row-contains rs (drop (r .given) b) i x t e
 
   none-contains : (rs : List SectionRow) (b : List ℕ) (i : ℕ) → length rs ≤ i → images.contains (getD (sections-of rs b) i no-section) a ≡ false
-  none-contains [] b i h = rw (le-ltb a 0 (omega arith)) (last (leb 0 a))
-    where
-      last : (t : Bool) → (t && false) ≡ false
-      last true = refl
-      last false = refl
+  none-contains [] b i h = rw (le-ltb a 0 (omega arith)) (and-false (leb 0 a))
   none-contains (r ∷ rs) b zero h = absurd (omega arith)
   none-contains (r ∷ rs) b (suc i) h = none-contains rs (drop (r .given) b) i (omega arith)
 

@@ -8,7 +8,8 @@ pub mod SkipRows
 pub mod SymbolRows
 pub mod Seen
 pub mod Alike
-pub mod Checks
+pub mod Numbers
 pub mod Told
 pub mod Words
 pub mod Halving
+pub mod Ready

@@ -1,21 +1,17 @@
 -- The rows of a list, of any width: one by one, by index, and where the last is not whole. Assumes nothing.
 use Prim.Native.Nat.{ℕ, zero, suc, _+_, _*_, _-_, _/_, _%_, _<_, _≤_}
 use mathlib.Core.Path.{_≡_, refl, sym, ap, _∙_}
-use mathlib.Core.Bool.{Bool, true, false, _&&_}
+use mathlib.Core.Bool.{Bool, true, false, false≢true, _&&_, and-false}
 use mathlib.Core.List.{List, [], _∷_, map}
 use native.Mathlib.Nat.{div-eq-sub-div, div-eq-of-lt, mod-eq-sub-mod, div-add-mod', mul-add-div-right, zero-mod, zero-mul, suc-mul}
 use native.Mathlib.Numerals.{add-one}
 use native.Mathlib.Omega.{arith}
-use lib.Dec.{ltb}
-use borrow.Author.Tests.{ltb-true, ltb-false}
+use lib.Dec.{ltb, eqb}
+use borrow.Author.Tests.{ltb-true, ltb-false, eqb-true, eqb-false}
 use lib.ListN.{length, take, drop, getD, length-take, length-drop}
 use lib.Seq.{drop-drop, drop-cons}
 use Rattle.rules.specs.Check.{all}
 use Rattle.obj.specs.Lent.{rows, rows-from}
-
-and-none : (a : Bool) {b : Bool} → b ≡ false → (a && b) ≡ false
-and-none true h = h
-and-none false h = refl
 
 pub middle-false : (a b : Bool) → (a && false && b) ≡ false
 middle-false true b = refl
@@ -98,10 +94,17 @@ module _ {A : Type 0} (w : ℕ) (pos : 0 < w) (row : List ℕ → A) where
             last lt = rw (short (take w l) (rw length-take (omega arith)))
 
             more : w ≤ length l → (p (row (take w l)) && all p (rows w row (drop w l))) ≡ false
-            more ge = and-none (p (row (take w l))) (again (rw length-drop (omega arith)) (λ z. h (mod-eq-sub-mod ge ∙ rw length-drop at z)))
+            more ge = rw (again (rw length-drop (omega arith)) (λ z. h (mod-eq-sub-mod ge ∙ rw length-drop at z))) (and-false (p (row (take w l))))
 
     pub not-whole : (l : List ℕ) → (length l % w ≡ 0 → ⊥) → false ≡ all p (rows w row l)
     not-whole l h = sym (ends-short (length l) l (omega arith) h)
+
+    pub whole-of : (l : List ℕ) → all p (rows w row l) ≡ true → length l % w ≡ 0
+    whole-of l h = go (eqb (length l % w) 0) refl
+      where
+        go : (b : Bool) → eqb (length l % w) 0 ≡ b → length l % w ≡ 0
+        go true e = eqb-true _ _ e
+        go false e = absurd (false≢true (not-whole l (eqb-false _ _ e) ∙ h))
 
   -- how many rows there are, where all are whole
   pub rows-count : (l : List ℕ) → length l % w ≡ 0 → length l / w ≡ length (rows w row l)

@@ -68,7 +68,7 @@ in-skipped s a r is l e =
 -- ---- the tests
 
 -- a range that is not whole is not aligned
-not-a-skip : (im : images.Image) (c : List ℕ) → length c < 2 → rules.is-skip im (skip-row c) ≡ false
+pub not-a-skip : (im : images.Image) (c : List ℕ) → length c < 2 → rules.is-skip im (skip-row c) ≡ false
 unfolding if
 not-a-skip im c h = rw (ne-eqb (length c) 2 (omega arith)) refl
 

@@ -52,7 +52,7 @@ module _ (im : images.Image) (x : SymbolRow) (f b : Bool) where
   holds-object h e = e ∙ sym (if-false h _ _)
 
 -- a symbol that is not whole is not aligned
-not-a-symbol : (im : images.Image) (f : Bool) (c : List ℕ) → length c < 3 → symbol-holds im f (symbol-row c) ≡ false
+pub not-a-symbol : (im : images.Image) (f : Bool) (c : List ℕ) → length c < 3 → symbol-holds im f (symbol-row c) ≡ false
 unfolding if
 not-a-symbol im f c h = rw (ne-eqb (length c) 3 (omega arith)) (both f)
   where

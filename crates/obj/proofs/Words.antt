@@ -1,7 +1,7 @@
 -- The code word at an address, from the bytes of the code section. Assumes nothing.
 use Prim.Native.Nat.{ℕ, zero, suc, _+_, _*_, _-_, _/_, _%_, _≤_, _<_}
 use mathlib.Core.Path.{_≡_, refl, sym, ap, _∙_}
-use mathlib.Core.Bool.{Bool, true, false, _&&_}
+use mathlib.Core.Bool.{Bool, true, false, _&&_, and-false}
 use mathlib.Core.List.{List, [], _∷_}
 use native.Mathlib.Omega.{arith}
 use lib.Dec.{leb, ltb}
@@ -44,11 +44,7 @@ module _ (b : List ℕ) (c : Code) (a : ℕ) (fits : InBytes b c) (l : Lent) (is
   word-below h = outside (contains-is ∙ rw (lt-leb (c .base) a h) refl)
 
   pub word-above : c .base + c .size ≤ a → no-word ≡ images.word (image l) a
-  word-above h = outside (contains-is ∙ rw (le-ltb a (c .base + c .size) h) (last (leb (c .base) a)))
-    where
-      last : (t : Bool) → (t && false) ≡ false
-      last true = refl
-      last false = refl
+  word-above h = outside (contains-is ∙ rw (le-ltb a (c .base + c .size) h) (and-false (leb (c .base) a)))
 
   pub word-here : (i w : ℕ) → a < 0x1_0000_0000 → c .base ≤ a → a < c .base + c .size → i ≡ (a - c .base) / 4 → words-in (drop (c .offset + i * 4) b) ≡ w ∷ words-in (drop (c .offset + i * 4 + 4) b) → w ≡ images.word (image l) a
   unfolding images.word images.index

@@ -1,5 +1,5 @@
 -- `obj::outcomes::check_outcomes` is `check-outcomes` of `rules`. Assumes nothing.
-use Rattle.obj.proofs.Checks.{outcomes-are, outcomes-miscounted, outcomes-broken}
+use Rattle.obj.proofs.Numbers.{outcomes-are, outcomes-miscounted, outcomes-broken}
 use borrow.Author.Needs.{needs}
 use Rattle.obj.proofs.outcomes.check_outcomes.Statement.{statement}
 use Rattle.obj.proofs.outcomes.check_outcomes.Tie as tie

@@ -1,8 +1,8 @@
--- `obj::check::are_entries` is `are-entries` of `rules`. Assumes nothing.
+-- `obj::checks::are_entries` is `are-entries` of `rules`. Assumes nothing.
 use Rattle.obj.proofs.SymbolRows.{no-entry, one-entry, more-entries}
 use borrow.Author.Needs.{needs}
-use Rattle.obj.proofs.check.are_entries.Statement.{statement}
-use Rattle.obj.proofs.check.are_entries.Tie as tie
+use Rattle.obj.proofs.checks.are_entries.Statement.{statement}
+use Rattle.obj.proofs.checks.are_entries.Tie as tie
 
 returns : tie.Need-returns
 returns c = search (needs, no-entry)

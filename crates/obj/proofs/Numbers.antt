@@ -1,7 +1,7 @@
 -- Checks 1 to 3 as a whole. Assumes nothing.
 use Prim.Native.Nat.{ℕ, _/_, _%_, _<_}
 use mathlib.Core.Path.{_≡_, refl, sym, ap, _∙_}
-use mathlib.Core.Bool.{Bool, true, false, _&&_}
+use mathlib.Core.Bool.{Bool, true, false, _&&_, and-false}
 use mathlib.Core.List.{List, []}
 use native.Mathlib.Omega.{arith}
 use lib.Dec.{leb, eqb}
@@ -23,7 +23,7 @@ use Rattle.obj.proofs.Alike.{alike-seen, outcomes-alike, rest-alike}
 -- ---- check 2
 
 -- an outcome that is not whole has no kind
-not-an-outcome : (im : Image) (c : List ℕ) → length c < 6 → rules.is-outcome im (outcome-row c) ≡ false
+pub not-an-outcome : (im : Image) (c : List ℕ) → length c < 6 → rules.is-outcome im (outcome-row c) ≡ false
 unfolding if
 not-an-outcome im c h =
     let n : eqb (length c) 6 ≡ false = ne-eqb (length c) 6 (omega arith) in
@@ -37,11 +37,7 @@ module _ (s o : List ℕ) where
   unfolding rules.check-outcomes given
   outcomes-broken h =
       let k : false ≡ rules.all (rules.is-outcome (seen s)) (rows 6 outcome-row o) = not-whole 6 (omega arith) outcome-row (rules.is-outcome (seen s)) (not-an-outcome (seen s)) o h in
-      rw (← k) (sym (last (eqb (length (rows 6 outcome-row o)) (code-words (seen s)))))
-    where
-      last : (a : Bool) → (a && false) ≡ false
-      last true = refl
-      last false = refl
+      rw (← k) (sym (and-false (eqb (length (rows 6 outcome-row o)) (code-words (seen s)))))
 
   module _ (c : Code) (is : Code-is s c) (whole : length o % 6 ≡ 0) where
     counts : eqb (length (rows 6 outcome-row o)) (code-words (seen s)) ≡ eqb (length o / 6) (c .size / 4)

@@ -1,8 +1,8 @@
--- `obj::check::check_rest` is `check-rest` of `rules`. Assumes nothing.
-use Rattle.obj.proofs.Checks.{rest-is}
+-- `obj::checks::check_rest` is `check-rest` of `rules`. Assumes nothing.
+use Rattle.obj.proofs.Numbers.{rest-is}
 use borrow.Author.Needs.{needs}
-use Rattle.obj.proofs.check.check_rest.Statement.{statement}
-use Rattle.obj.proofs.check.check_rest.Tie as tie
+use Rattle.obj.proofs.checks.check_rest.Statement.{statement}
+use Rattle.obj.proofs.checks.check_rest.Tie as tie
 
 returns : tie.Need-returns
 returns c = search (needs, rest-is)

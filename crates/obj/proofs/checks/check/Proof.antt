@@ -1,8 +1,8 @@
--- `obj::check::check` is `check` of `rules`. Assumes nothing.
-use Rattle.obj.proofs.Checks.{few-passed, check-one, check-two, check-three, check-none}
+-- `obj::checks::check` is `check` of `rules`. Assumes nothing.
+use Rattle.obj.proofs.Numbers.{few-passed, check-one, check-two, check-three, check-none}
 use borrow.Author.Needs.{needs}
-use Rattle.obj.proofs.check.check.Statement.{statement}
-use Rattle.obj.proofs.check.check.Tie as tie
+use Rattle.obj.proofs.checks.check.Statement.{statement}
+use Rattle.obj.proofs.checks.check.Tie as tie
 
 check-outcomes-requires : tie.Need-check-outcomes-requires
 check-outcomes-requires c κs = few-passed _ _ _ (c .before .check-image .ensures) (c .if1 .taken)
