@@ -39,9 +39,9 @@ module _ (im : Image) (way a : ℕ) where
       go false = refl
 
   module _ (some : way ≡ 0 → ⊥) where
-    pub no-to : way % 4 ≡ 0 → false ≡ rules.all (rules.is-branch-row im) (branch-row way a)
+    pub to-nowhere : way % 4 ≡ 0 → false ≡ rules.all (rules.is-branch-row im) (branch-row way a)
     unfolding if
-    no-to h = sym (one-branch some ∙ rw (eq-eqb (way % 4) 0 h) (middle-false (leb (way / 4) 1) _))
+    to-nowhere h = sym (one-branch some ∙ rw (eq-eqb (way % 4) 0 h) (middle-false (leb (way / 4) 1) _))
 
     pub to-elsewhere : way % 4 ≡ 3 → (leb (way / 4) 1 && eqb a 0) ≡ rules.all (rules.is-branch-row im) (branch-row way a)
     unfolding if
@@ -90,9 +90,9 @@ module _ (im : Image) (r : Row) where
       let l : leb (length (branch-row (r .first) (r .second) ++ branch-row (r .third) (r .fourth))) 2 ≡ true = le-leb (length (branch-row (r .first) (r .second) ++ branch-row (r .third) (r .fourth))) 2 (rw length-append (omega (arith, few-branches (r .first) (r .second), few-branches (r .third) (r .fourth)))) in
       rw (h, l, all-append, e, f) refl
 
-  pub table-fits : (b d : Bool) → r .kind ≡ 5 → b ≡ rules.is-inside im (r .first) → (b && leb (r .second) 65536 && (eqb (r .third) 0 && eqb (r .fourth) 0)) ≡ rules.fits-kind im (row-of r)
+  pub table-fits : (b : Bool) → r .kind ≡ 5 → b ≡ rules.is-inside im (r .first) → (b && leb (r .second) 65536 && (eqb (r .third) 0 && eqb (r .fourth) 0)) ≡ rules.fits-kind im (row-of r)
   unfolding if
-  table-fits b d h e = rw (h, no-branch (r .third) (r .fourth), e) refl
+  table-fits b h e = rw (h, no-branch (r .third) (r .fourth), e) refl
 
   pub jump-fits : (b : Bool) → r .kind ≡ 4 → b ≡ rules.is-inside im (r .first) → (b && eqb (r .second) 0 && (eqb (r .third) 0 && eqb (r .fourth) 0)) ≡ rules.fits-kind im (row-of r)
   unfolding if
@@ -106,10 +106,9 @@ module _ (im : Image) (r : Row) where
   outcome-is b h e =
       let k : leb (row-of r .kind) 6 ≡ true = ap (λ (n : ℕ). leb n 6) (row-kind r) ∙ le-leb _ _ h in
       let m : leb (row-of r .mark) 1 ≡ leb (r .mark) 1 = ap (λ (n : ℕ). leb n 1) (row-mark r) in
-      e′ k m
-    where
-      e′ : leb (row-of r .kind) 6 ≡ true → leb (row-of r .mark) 1 ≡ leb (r .mark) 1 → (leb (r .mark) 1 && b) ≡ rules.is-outcome im (row-of r)
-      e′ k m = ap (λ (t : Bool). leb (r .mark) 1 && t) e ∙ ap (λ (t : Bool). t && rules.fits-kind im (row-of r)) (sym m) ∙ ap (λ (t : Bool). t && leb (row-of r .mark) 1 && rules.fits-kind im (row-of r)) (sym k)
+      ap (λ (t : Bool). leb (r .mark) 1 && t) e
+      ∙ ap (λ (t : Bool). t && rules.fits-kind im (row-of r)) (sym m)
+      ∙ ap (λ (t : Bool). t && leb (row-of r .mark) 1 && rules.fits-kind im (row-of r)) (sym k)
 
   pub no-kind : 6 < r .kind → false ≡ rules.is-outcome im (row-of r)
   no-kind h = ap (λ (t : Bool). t && leb (row-of r .mark) 1 && rules.fits-kind im (row-of r)) (sym (ap (λ (n : ℕ). leb n 6) (row-kind r) ∙ lt-leb _ _ h))

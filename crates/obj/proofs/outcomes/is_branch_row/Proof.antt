@@ -1,5 +1,5 @@
 -- `obj::outcomes::is_branch_row` is `is-branch-row` of `rules`, of the branch if there is one. Assumes nothing.
-use Rattle.obj.proofs.OutcomeRows.{zero-way, no-to, to-elsewhere, to-inside}
+use Rattle.obj.proofs.OutcomeRows.{zero-way, to-nowhere, to-elsewhere, to-inside}
 use borrow.Author.Needs.{needs}
 use Rattle.obj.proofs.outcomes.is_branch_row.Statement.{statement}
 use Rattle.obj.proofs.outcomes.is_branch_row.Tie as tie
@@ -8,7 +8,7 @@ returns : tie.Need-returns
 returns c = search (needs, zero-way)
 
 returns-2 : tie.Need-returns-2
-returns-2 c = search (needs, no-to)
+returns-2 c = search (needs, to-nowhere)
 
 returns-3 : tie.Need-returns-3
 returns-3 c = search (needs, to-elsewhere)
