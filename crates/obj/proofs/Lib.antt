@@ -1,0 +1,14 @@
+pub mod Rows
+pub mod Loops
+pub mod SectionRows
+pub mod CodeSection
+pub mod CheckImage
+pub mod OutcomeRows
+pub mod SkipRows
+pub mod SymbolRows
+pub mod Seen
+pub mod Alike
+pub mod Checks
+pub mod Told
+pub mod Words
+pub mod Halving

@@ -1,0 +1,47 @@
+-- `obj::skips::all_skips` is that each row passes. Assumes nothing.
+use Prim.Native.Nat.{_-_, _%_, _≤_}
+use mathlib.Core.Path.{_≡_, refl}
+use native.Mathlib.Omega.{arith}
+use lib.ListN.{length, drop}
+use Rattle.rules.specs.Check.{all, is-skip}
+use Rattle.obj.specs.Lent.{rows, skip-row, seen}
+use Rattle.obj.proofs.Loops.{all-fails, all-on, all-ends}
+use borrow.Author.Needs.{needs}
+use Rattle.obj.proofs.skips.all_skips.Statement.{statement}
+use Rattle.obj.proofs.skips.all_skips.Tie as tie
+
+abbrev Inv-loop : tie.InvT-loop
+Inv-loop sections skips at₀ at = (at ≤ length skips) × (at % 2 ≡ 0) × (all (is-skip (seen sections)) (rows 2 skip-row (drop at skips)) ≡ all (is-skip (seen sections)) (rows 2 skip-row skips))
+
+abbrev μ-loop : tie.MeasureT-loop
+μ-loop sections skips at₀ at = length skips - at
+
+loop-holds : tie.Need-loop-holds Inv-loop μ-loop
+loop-holds c = (omega arith, omega arith, refl)
+
+loop-less : tie.Need-loop-less Inv-loop μ-loop
+loop-less c = omega arith
+
+loop-again : tie.Need-loop-again Inv-loop μ-loop
+loop-again c = (omega arith, omega arith, search (needs, all-on))
+
+returns : tie.Need-returns Inv-loop μ-loop
+returns c = search (needs, all-fails)
+
+returns-2 : tie.Need-returns-2 Inv-loop μ-loop
+returns-2 c = search (needs, all-ends)
+
+pub all-skips-spec : {M : Type 1} → statement M
+all-skips-spec =
+    tie.close
+    (tie.spec
+    Inv-loop
+    μ-loop
+    loop-holds
+    (λ c κs. search needs)
+    (λ c κs. search needs)
+    (λ c. search needs)
+    loop-less
+    loop-again
+    returns
+    returns-2)

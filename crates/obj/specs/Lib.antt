@@ -1,0 +1,5 @@
+pub mod Lent
+pub mod Sections
+pub mod Outcomes
+pub mod Skips
+pub mod Symbols

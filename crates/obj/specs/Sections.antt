@@ -1,0 +1,44 @@
+-- The sections as rows, and what the lookups in them come to.
+use Prim.Native.Nat.{ℕ, _+_, _%_, _≤_}
+use mathlib.Core.Path.{_≡_}
+use mathlib.Core.Bool.{Bool, true, _&&_}
+use mathlib.Core.List.{List, []}
+use lib.ListN.{length, take, drop}
+use Rattle.rules.specs.Bytes.{words-in}
+use Rattle.rules.specs.Image as images
+use Rattle.rules.specs.Image.{code-number, code-section}
+use Rattle.rules.specs.Given.{SectionRow, section-of-row}
+use Rattle.rules.specs.Check.{is-kind, is-placed, code-fits, has-bytes, check-image}
+use Rattle.obj.specs.Lent.{Lent, given, image}
+use Rattle.obj.specs.declared.sections.Section.{Section}
+use Rattle.obj.specs.declared.sections.Code.{Code}
+
+-- a section by value, as a row
+abbrev pub row-of : Section → SectionRow
+row-of s = record { kind = s .kind; base = s .base; size = s .size; given = s .given }
+
+-- without its bytes
+abbrev pub part-of : Section → images.Section
+part-of s = section-of-row (row-of s) []
+
+-- what is asked of each section alone
+abbrev pub section-holds : SectionRow → Bool
+section-holds r = is-kind r && is-placed r && code-fits r && has-bytes r
+
+-- at most 8 whole rows
+pub record Few (s : List ℕ) : Type 0 where
+  pub whole : length s % 4 ≡ 0
+  pub few : length s ≤ 32
+
+-- the code section of the image; where the image passes check 1, with its bytes
+pub record IsCode (l : Lent) (c : Code) : Type 0 where
+  pub number : c .number ≡ code-number (image l)
+  pub base : c .base ≡ code-section (image l) .base
+  pub size : c .size ≡ code-section (image l) .size
+  pub words : check-image (given l) ≡ true → words-in (take (c .size) (drop (c .offset) (l .bytes))) ≡ code-section (image l) .words
+  pub inside : check-image (given l) ≡ true → c .offset + c .size ≤ length (l .bytes)
+
+-- the code section is whole words, and its bytes are lent
+pub record InBytes (b : List ℕ) (c : Code) : Type 0 where
+  pub words : c .size % 4 ≡ 0
+  pub bytes : c .offset + c .size ≤ length b
