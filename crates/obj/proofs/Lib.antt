@@ -12,3 +12,4 @@ pub mod Checks
 pub mod Told
 pub mod Words
 pub mod Halving
+pub mod Part
