@@ -1,10 +1,9 @@
 -- The section of an address with its bytes, from the rows of the sections. Assumes nothing.
-use Prim.Native.Nat.{ℕ, zero, suc, _+_, _-_, _≤_, _<_}
+use Prim.Native.Nat.{ℕ, zero, suc, _+_, _-_, _≤_}
 use mathlib.Core.Path.{_≡_, refl, sym, ap, _∙_}
 use mathlib.Core.Bool.{true}
 use mathlib.Core.List.{List, [], _∷_}
 use native.Mathlib.Omega.{arith}
-use lib.Dec.{eqb}
 use lib.ListN.{length, take, drop, getD}
 use lib.Seq.{drop-drop}
 use borrow.Author.Tests.{eqb-true, ne-eqb}
@@ -15,7 +14,7 @@ use Rattle.rules.specs.Image.{no-section, section-at}
 use Rattle.rules.specs.Given.{SectionRow, sections-of, kind-of, image-of}
 use Rattle.rules.specs.Check as rules
 use Rattle.rules.proofs.Tests.{and-left, and-right}
-use Rattle.obj.specs.Lent.{Lent, rows, section-row, given, image}
+use Rattle.obj.specs.Lent.{Lent, rows, section-row, given}
 use Rattle.obj.specs.Sections.{row-of, IsPart}
 use Rattle.obj.specs.declared.sections.Section.{Section}
 use Rattle.obj.specs.declared.sections.Part.{Part}
