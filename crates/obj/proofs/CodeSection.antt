@@ -94,11 +94,11 @@ before-bytes rs =
 
 -- what check 1 says of the bytes
 module _ (l : Lent) (passed : rules.check-image (given l) ≡ true) where
-  bytes-whole : rules.all rules.has-bytes (rows 4 section-row (l .sections)) ≡ true
+  pub bytes-whole : rules.all rules.has-bytes (rows 4 section-row (l .sections)) ≡ true
   unfolding rules.check-image given
   bytes-whole = and-right (before-bytes (rows 4 section-row (l .sections))) _ (and-left _ _ passed)
 
-  bytes-count : rules.count-bytes (rows 4 section-row (l .sections)) ≡ length (l .bytes)
+  pub bytes-count : rules.count-bytes (rows 4 section-row (l .sections)) ≡ length (l .bytes)
   unfolding rules.check-image given
   bytes-count =
       sym (eqb-true _ _ (and-right (before-bytes (rows 4 section-row (l .sections)) && rules.all rules.has-bytes (rows 4 section-row (l .sections))) _ passed))

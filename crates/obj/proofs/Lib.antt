@@ -13,3 +13,4 @@ pub mod Told
 pub mod Words
 pub mod Halving
 pub mod Ready
+pub mod Part

@@ -8,7 +8,7 @@ ghost use Rattle.rules.specs.Check as rules;
 ghost use Rattle.rules.specs.Image as images;
 ghost use Rattle.rules.specs.Address.{address-of};
 ghost use Rattle.obj.specs.Lent.{Lent, rows, section-row, given, image};
-ghost use Rattle.obj.specs.Sections.{row-of, part-of, section-holds, Few, IsCode, InBytes};
+ghost use Rattle.obj.specs.Sections.{row-of, part-of, section-holds, Few, IsCode, IsPart, InBytes};
 
 // A section by value.
 pub struct Section {
@@ -278,6 +278,14 @@ pub fn code_section(sections: &[u32]) -> Code
     }
 }
 
+// A section, and where its bytes begin.
+pub struct Part {
+    pub kind: u32,
+    pub base: u32,
+    pub size: u32,
+    pub offset: usize,
+}
+
 fn one_less(n: u64) -> u64
     ensures { λ r. ⌜ r ≡ n - 1 ⌝ }
 {
@@ -317,4 +325,34 @@ pub fn word(bytes: &[u8], code: Code, a: u32) -> u64
     }
     let at = code.offset + from as usize / 4 * 4;
     wide(ppc::words::word_at(bytes, at))
+}
+
+// The section that an address is of; an empty one of bss where there is none.
+pub fn section_of(sections: &[u32], k: u64) -> Part
+    requires { ⌜ Few (now sections) ⌝ }
+    ensures { λ r. ⌜ ((l : Lent) → l .sections ≡ now (sections .entry) → IsPart l k r) ⌝ }
+{
+    let mut left = one_less(k / 0x1_0000_0000);
+    let mut at: usize = 0;
+    let mut offset: usize = 0;
+    while at < sections.len() {
+        let s = section_at(sections, at);
+        if left == 0 {
+            return Part {
+                kind: s.kind,
+                base: s.base,
+                size: s.size,
+                offset,
+            };
+        }
+        left -= 1;
+        offset += wide(s.given) as usize;
+        at += 4;
+    }
+    Part {
+        kind: 4,
+        base: 0,
+        size: 0,
+        offset,
+    }
 }

@@ -138,7 +138,7 @@ zeros-past m l r e z k h =
     let at : m + (k - m) ≡ k = omega arith in
     rw (← at) (sym (getD-drop m l (k - m) 0) ∙ ap (λ (l : List ℕ). getD l (k - m) 0) e ∙ z (k - m))
 
-zeros-drop : (n m : ℕ) (l : List ℕ) → n ≤ m → ((k : ℕ) → n ≤ k → getD l k 0 ≡ 0) → (k : ℕ) → getD (drop m l) k 0 ≡ 0
+pub zeros-drop : (n m : ℕ) (l : List ℕ) → n ≤ m → ((k : ℕ) → n ≤ k → getD l k 0 ≡ 0) → (k : ℕ) → getD (drop m l) k 0 ≡ 0
 zeros-drop n m l h z k = getD-drop m l k 0 ∙ z (m + k) (omega arith)
 
 zeros-cons : (l : List ℕ) → ((k : ℕ) → getD l k 0 ≡ 0) → (k : ℕ) → getD (0 ∷ l) k 0 ≡ 0
