@@ -1,0 +1,5 @@
+pub mod Parts
+pub mod Changes
+pub mod Stores
+pub mod Tables
+pub mod Lookups

@@ -1,0 +1,68 @@
+use Prim.Native.Nat.{ℕ, suc, _≤_, _<_, _-_}
+use mathlib.Core.Path.{_≡_, refl, sym, ap, _∙_}
+use native.Mathlib.Omega.{arith}
+use lib.ListN.{length, drop, getD, replicate, length-set, length-replicate, getD-replicate}
+use Rattle.runs.proofs.Laws.{Copied, copied-start, copied-next, lowered-next, Raised, raised-start, raised-next, raised-end}
+use Rattle.runs.proofs.move_up.Statement.{statement}
+use Rattle.runs.proofs.move_up.Tie as tie
+
+abbrev Inv-loop : tie.InvT-loop
+Inv-loop xs₀ src dst n k₀ xs k = (k ≤ n) × Raised xs₀ src dst n k xs
+
+abbrev μ-loop : tie.MeasureT-loop
+μ-loop xs₀ src dst n k₀ xs k = k
+
+loop-holds : tie.Need-loop-holds Inv-loop μ-loop
+loop-holds c = (omega arith, raised-start _ _ _ _)
+
+sub-k : tie.Need-sub-k Inv-loop μ-loop
+sub-k c = omega arith
+
+add-xs : tie.Need-add-xs Inv-loop μ-loop
+add-xs c = omega arith
+
+mul-xs : tie.Need-mul-xs Inv-loop μ-loop
+mul-xs c = omega arith
+
+slice-read-xs : tie.Need-slice-read-xs Inv-loop μ-loop
+slice-read-xs c = omega arith
+
+add-xs-2 : tie.Need-add-xs-2 Inv-loop μ-loop
+add-xs-2 c = omega arith
+
+mul-xs-2 : tie.Need-mul-xs-2 Inv-loop μ-loop
+mul-xs-2 c = omega arith
+
+slice-write-xs : tie.Need-slice-write-xs Inv-loop μ-loop
+slice-write-xs c = omega arith
+
+loop-less : tie.Need-loop-less Inv-loop μ-loop
+loop-less c = omega arith
+
+loop-again : tie.Need-loop-again Inv-loop μ-loop
+loop-again c = (omega arith, raised-next _ _ _ _ _ _ _ (omega arith) (omega arith) (omega arith) (omega arith) (c .before .before .loop .inv .1))
+
+same-length : tie.Need-same-length Inv-loop μ-loop
+same-length c = omega arith
+
+returns : tie.Need-returns Inv-loop μ-loop
+returns c = let e : c .before .loop .k ≡ 0 = omega arith in raised-end _ _ _ _ _ (rw e at (c .before .loop .inv .1)) .same
+
+pub move-up-spec : {M : Type 1} → statement M
+move-up-spec =
+    tie.close
+    (tie.spec
+    Inv-loop
+    μ-loop
+    loop-holds
+    sub-k
+    add-xs
+    mul-xs
+    slice-read-xs
+    add-xs-2
+    mul-xs-2
+    slice-write-xs
+    loop-less
+    loop-again
+    same-length
+    returns)
