@@ -8,7 +8,7 @@ use Rattle.rules.specs.Blocks.{startOf}
 use Rattle.rules.specs.Slices.{Slices, fromOf, addressOf, with-blocks, with-ways, with-references, with-tables, with-possible}
 use Rattle.ordered.specs.Columns.{join}
 use Rattle.blocks.specs.Table.{rows}
-use Rattle.lists.specs.Groups.{pair, grouped}
+use Rattle.lists.specs.Groups.{ways-rows}
 use Rattle.lists.specs.View.{Parts, parts-of, parts, lists-of, table, view, Held, Fit, Are}
 use Rattle.lists.specs.declared.Small.{Small}
 use Rattle.lists.proofs.Parts.{Lent, blocks-lent, ways-lent, references-lent, tables-lent, possible-lent}
@@ -49,7 +49,7 @@ module _ (k v : List ℕ) (s : Small) (f : Fit k v s) (fine : s .fault ≡ 0) wh
         possible-rise = f .held .possible-rise;
       }) fine
 
-  pub ways-changed : (ys zs k′ v′ : List ℕ) (n : ℕ) → Lent 256 1024 k ys k′ → Lent 256 1024 v zs v′ → n ≤ 1024 → Rising fromOf (grouped (join pair (take n ys) (take n zs))) → Are (with-ways (view k v s) (grouped (join pair (take n ys) (take n zs)))) k′ v′ (counted s (s .blocks) n (s .references) (s .tables) (s .possible))
+  pub ways-changed : (ys zs k′ v′ : List ℕ) (n : ℕ) → Lent 256 1024 k ys k′ → Lent 256 1024 v zs v′ → n ≤ 1024 → Rising fromOf (ways-rows n ys zs) → Are (with-ways (view k v s) (ways-rows n ys zs)) k′ v′ (counted s (s .blocks) n (s .references) (s .tables) (s .possible))
   unfolding view P
   ways-changed ys zs k′ v′ n lk lv h rise =
       are k′ v′ (parts-of (P .starts) (P .ends) ys zs (P .references) (P .addresses) (P .sizes) (P .possible)) (counted s (s .blocks) n (s .references) (s .tables) (s .possible)) (ways-lent lk lv) (lk .size) (lv .size) (record {

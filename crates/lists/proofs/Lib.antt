@@ -3,3 +3,5 @@ pub mod Changes
 pub mod Stores
 pub mod Tables
 pub mod Lookups
+pub mod Groups
+pub mod Ways

@@ -10,7 +10,7 @@ use Rattle.rules.specs.Blocks.{Block, startOf, is-new}
 use Rattle.rules.specs.Slices.{Slices, Ways, Table, slices-of, fromOf, addressOf, add-block-start}
 use Rattle.ordered.specs.Columns.{join}
 use Rattle.blocks.specs.Table.{rows}
-use Rattle.lists.specs.Groups.{pair, grouped}
+use Rattle.lists.specs.Groups.{ways-rows}
 use Rattle.lists.specs.declared.Small.{Small}
 use Rattle.lists.specs.declared.Marked.{Marked}
 
@@ -47,7 +47,7 @@ abbrev pub blocks-in : Parts → Small → List Block
 blocks-in p s = rows (s .blocks) (p .starts) (p .ends)
 
 abbrev pub ways-in : Parts → Small → List Ways
-ways-in p s = grouped (join pair (take (s .ways) (p .froms)) (take (s .ways) (p .tos)))
+ways-in p s = ways-rows (s .ways) (p .froms) (p .tos)
 
 abbrev pub references-in : Parts → Small → List ℕ
 references-in p s = take (s .references) (p .references)

@@ -2,13 +2,14 @@
 ghost use mathlib.Core.Path.{_≡_};
 ghost use mathlib.Core.Bool.{_&&_};
 ghost use mathlib.Core.List.{[]};
-ghost use Prim.Native.Nat.{_≤_};
+ghost use Prim.Native.Nat.{suc, _<_, _≤_};
 ghost use lib.Dec.{leb};
 ghost use lib.ListN.{length, take};
-ghost use Rattle.rules.specs.Ordered.{self, has, upper, Rising};
+ghost use Rattle.rules.specs.Ordered.{self, rank, has, upper, Rising};
 ghost use Rattle.rules.specs.Blocks.{block, startOf, first-start, last-start, last-end, first-disconnected-block, is-open};
 ghost use Rattle.rules.specs.Choice.{ok, any};
-ghost use Rattle.rules.specs.Slices.{set-block, add-block-start, add-reference, set-table, add-possible, discard-possible, with-only};
+ghost use Rattle.rules.specs.Slices.{set-block, add-block-start, set-ways, add-reference, set-table, add-possible, discard-possible, with-only};
+ghost use Rattle.lists.specs.Groups.{HasWays, IsPut};
 ghost use Rattle.lists.specs.View.{view, only, Fit, Are, Is, IsMarked};
 
 // How many elements each table has, and what is no table. The fault is 0 while there is none.
@@ -84,6 +85,85 @@ pub fn add_block_start(k: &mut [u64], v: &mut [u64], s: Small, addr: u64) -> Mar
             }
         }
     }
+}
+
+// How many of the first n elements stand before the first above key, one by one: what moves them takes as long.
+fn rank_past(fs: &[u64], n: usize, key: u64) -> usize
+    requires { ⌜ n ≤ length (now fs) ⌝ }
+    ensures { λ r. ⌜ r ≡ rank self (suc key) (take n (now (fs .entry))) ⌝ }
+{
+    let mut i: usize = 0;
+    while i < n {
+        if key < fs[i] {
+            return i;
+        }
+        i += 1;
+    }
+    i
+}
+
+// How many of the first n elements stand before the first that is key or more.
+fn rank_from(fs: &[u64], n: usize, key: u64) -> usize
+    requires { ⌜ n ≤ length (now fs) ⌝ }
+    ensures { λ r. ⌜ r ≡ rank self key (take n (now (fs .entry))) ⌝ }
+{
+    if key == 0 {
+        return 0;
+    }
+    rank_past(fs, n, key - 1)
+}
+
+// Puts the m targets of key into the n pairs, instead of those that it had; how many there are then, at most `room`.
+fn put_ways(
+    fs: &mut [u64],
+    ts: &mut [u64],
+    n: usize,
+    room: usize,
+    key: u64,
+    targets: &[u64],
+    m: usize,
+) -> ordered::Insertion
+    requires { ⌜ HasWays n room m (now fs) (now ts) (now targets) ⌝ }
+    ensures { λ r. ⌜ IsPut n room key (take m (now (targets .entry))) (now (fs .entry)) (now (ts .entry)) (now (fs .exit)) (now (ts .exit)) r ⌝ }
+{
+    let at = rank_from(fs, n, key);
+    let until = rank_past(fs, n, key);
+    let kept = at + (n - until);
+    if room - kept < m {
+        return ordered::Insertion {
+            count: n,
+            full: true,
+        };
+    }
+    runs::splice_fill(fs, n, at, until, key, m);
+    let count = runs::splice(ts, n, at, until, targets, m);
+    ordered::Insertion { count, full: false }
+}
+
+// Sets the ways on from a word to the first m targets, instead of those that it had.
+pub fn set_ways(
+    k: &mut [u64],
+    v: &mut [u64],
+    s: Small,
+    from: u64,
+    targets: &[u64],
+    m: usize,
+) -> Small
+    requires lists { ⌜ Fit (now k) (now v) s × (s .fault ≡ 0) ⌝ }
+    requires some { ⌜ (0 < m) × (m ≤ length (now targets)) ⌝ }
+    ensures { λ r. ⌜ Is (set-ways from (take m (now (targets .entry))) (view (now (k .entry)) (now (v .entry)) s)) (now (k .entry)) (now (k .exit)) (now (v .exit)) r ⌝ }
+{
+    let a: usize = 256;
+    let b: usize = 1280;
+    let r = put_ways(&mut k[a..b], &mut v[a..b], s.ways, 1024, from, targets, m);
+    if r.full {
+        let mut t = s;
+        t.fault = 4;
+        return t;
+    }
+    let mut t = s;
+    t.ways = r.count;
+    t
 }
 
 // Adds a function that is referred to.

@@ -4,31 +4,13 @@ use borrow.Author.Needs.{needs}
 use Rattle.lists.proofs.add_reference.Statement.{statement}
 use Rattle.lists.proofs.add_reference.Tie as tie
 
-mul-insert : tie.Need-mul-insert
-mul-insert c = search needs
-
-sub-insert : tie.Need-sub-insert
-sub-insert c = search needs
-
-part-insert-start : tie.Need-part-insert-start
-part-insert-start c = search needs
-
-part-insert-end : tie.Need-part-insert-end
-part-insert-end c = search needs
-
 insert-requires : tie.Need-insert-requires
 unfolding part
 insert-requires c κs = references-room _ _ _ (c .before .before .before .pre .0)
 
-same-length : tie.Need-same-length
-same-length c = search needs
-
 returns : tie.Need-returns
 unfolding part
 returns c = reference-full _ _ _ (c .before .before .before .before .before .before .before .pre .0) (c .before .before .before .before .before .before .before .pre .1) _ _ _ (c .before .before .before .insert .ensures) (c .if1 .taken)
-
-same-length-2 : tie.Need-same-length-2
-same-length-2 c = search needs
 
 returns-2 : tie.Need-returns-2
 unfolding part
@@ -38,12 +20,12 @@ pub add-reference-spec : {M : Type 1} → statement M
 add-reference-spec =
     tie.close
     (tie.spec
-    mul-insert
-    sub-insert
-    part-insert-start
-    part-insert-end
+    (λ c. search needs)
+    (λ c. search needs)
+    (λ c. search needs)
+    (λ c. search needs)
     insert-requires
-    same-length
+    (λ c. search needs)
     returns
-    same-length-2
+    (λ c. search needs)
     returns-2)

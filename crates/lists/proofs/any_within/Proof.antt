@@ -20,23 +20,8 @@ abbrev μ-loop : tie.MeasureT-loop
 loop-holds : tie.Need-loop-holds Inv-loop μ-loop
 loop-holds c = (omega arith, refl)
 
-mul-is-within : tie.Need-mul-is-within Inv-loop μ-loop
-mul-is-within c = omega arith
-
-shared-slice-read-is-within : tie.Need-shared-slice-read-is-within Inv-loop μ-loop
-shared-slice-read-is-within c = omega arith
-
-is-within-requires : tie.Need-is-within-requires Inv-loop μ-loop
-is-within-requires c κs = search needs
-
 returns : tie.Need-returns Inv-loop μ-loop
 returns c = let a = c .before .before .before .before .before .before .args in any-here (λ x. leb (a .low) x && leb x (a .high)) (a .xs .now) (a .n) (omega arith) (c .before .before .before .before .loop .i) (omega arith) (sym (c .before .is-within .ensures) ∙ c .if1 .taken) (c .before .before .before .before .loop .inv .1)
-
-add-i : tie.Need-add-i Inv-loop μ-loop
-add-i c = omega arith
-
-loop-less : tie.Need-loop-less Inv-loop μ-loop
-loop-less c = omega arith
 
 loop-again : tie.Need-loop-again Inv-loop μ-loop
 loop-again c = let a = c .before .before .before .before .before .before .args in (omega arith, any-next (λ x. leb (a .low) x && leb x (a .high)) (a .xs .now) (a .n) (omega arith) (c .before .before .before .before .loop .i) (omega arith) (sym (c .before .is-within .ensures) ∙ c .if1 .left) (c .before .before .before .before .loop .inv .1))
@@ -51,11 +36,11 @@ any-within-spec =
     Inv-loop
     μ-loop
     loop-holds
-    mul-is-within
-    shared-slice-read-is-within
-    is-within-requires
+    (λ c. omega arith)
+    (λ c. omega arith)
+    (λ c κs. search needs)
     returns
-    add-i
-    loop-less
+    (λ c. omega arith)
+    (λ c. omega arith)
     loop-again
     returns-2)

@@ -3,11 +3,8 @@ use borrow.Author.Needs.{needs}
 use Rattle.lists.proofs.empty.Statement.{statement}
 use Rattle.lists.proofs.empty.Tie as tie
 
-with-references-requires : tie.Need-with-references-requires
-with-references-requires c κs = search needs
-
 returns : tie.Need-returns
 returns c = none-are _ _ _ (c .before .before .before .pre .0) (c .before .before .before .pre .1) (c .with-references .ensures)
 
 pub empty-spec : {M : Type 1} → statement M
-empty-spec = tie.close (tie.spec with-references-requires returns)
+empty-spec = tie.close (tie.spec (λ c κs. search needs) returns)

@@ -3,15 +3,6 @@ use borrow.Author.Needs.{needs}
 use Rattle.lists.proofs.upper.Statement.{statement}
 use Rattle.lists.proofs.upper.Tie as tie
 
-rank-in-requires : tie.Need-rank-in-requires
-rank-in-requires c κs = search needs
-
-mul-result : tie.Need-mul-result
-mul-result c = search needs
-
-shared-slice-read-result : tie.Need-shared-slice-read-result
-shared-slice-read-result c = search needs
-
 returns : tie.Need-returns
 returns c = upper-some _ _ _ _ (c .before .before .before .before .pre .0) (c .before .before .rank-in .ensures) (c .before .if1 .taken)
 
@@ -20,4 +11,4 @@ returns-2 c = upper-none _ _ _ _ (c .before .before .before .pre .0) (c .before 
 
 pub upper-spec : {M : Type 1} → statement M
 upper-spec =
-    tie.close (tie.spec rank-in-requires mul-result shared-slice-read-result returns returns-2)
+    tie.close (tie.spec (λ c κs. search needs) (λ c. search needs) (λ c. search needs) returns returns-2)

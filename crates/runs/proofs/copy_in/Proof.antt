@@ -15,32 +15,8 @@ abbrev μ-loop : tie.MeasureT-loop
 loop-holds : tie.Need-loop-holds Inv-loop μ-loop
 loop-holds c = (omega arith, copied-start _ _ _)
 
-mul-xs : tie.Need-mul-xs Inv-loop μ-loop
-mul-xs c = omega arith
-
-shared-slice-read-xs : tie.Need-shared-slice-read-xs Inv-loop μ-loop
-shared-slice-read-xs c = omega arith
-
-add-xs : tie.Need-add-xs Inv-loop μ-loop
-add-xs c = omega arith
-
-mul-xs-2 : tie.Need-mul-xs-2 Inv-loop μ-loop
-mul-xs-2 c = omega arith
-
-slice-write-xs : tie.Need-slice-write-xs Inv-loop μ-loop
-slice-write-xs c = omega arith
-
-add-k : tie.Need-add-k Inv-loop μ-loop
-add-k c = omega arith
-
-loop-less : tie.Need-loop-less Inv-loop μ-loop
-loop-less c = omega arith
-
 loop-again : tie.Need-loop-again Inv-loop μ-loop
 loop-again c = (omega arith, copied-next _ _ _ _ _ _ (omega arith) (omega arith) refl (c .before .before .loop .inv .1))
-
-same-length : tie.Need-same-length Inv-loop μ-loop
-same-length c = omega arith
 
 returns : tie.Need-returns Inv-loop μ-loop
 returns c = let e : c .before .loop .k ≡ c .before .before .args .n = omega arith in rw e at (c .before .loop .inv .1 .same)
@@ -52,13 +28,13 @@ copy-in-spec =
     Inv-loop
     μ-loop
     loop-holds
-    mul-xs
-    shared-slice-read-xs
-    add-xs
-    mul-xs-2
-    slice-write-xs
-    add-k
-    loop-less
+    (λ c. omega arith)
+    (λ c. omega arith)
+    (λ c. omega arith)
+    (λ c. omega arith)
+    (λ c. omega arith)
+    (λ c. omega arith)
+    (λ c. omega arith)
     loop-again
-    same-length
+    (λ c. omega arith)
     returns)

@@ -15,35 +15,8 @@ abbrev μ-loop : tie.MeasureT-loop
 loop-holds : tie.Need-loop-holds Inv-loop μ-loop
 loop-holds c = (omega arith, copied-start _ _ _)
 
-add-xs : tie.Need-add-xs Inv-loop μ-loop
-add-xs c = omega arith
-
-mul-xs : tie.Need-mul-xs Inv-loop μ-loop
-mul-xs c = omega arith
-
-slice-read-xs : tie.Need-slice-read-xs Inv-loop μ-loop
-slice-read-xs c = omega arith
-
-add-xs-2 : tie.Need-add-xs-2 Inv-loop μ-loop
-add-xs-2 c = omega arith
-
-mul-xs-2 : tie.Need-mul-xs-2 Inv-loop μ-loop
-mul-xs-2 c = omega arith
-
-slice-write-xs : tie.Need-slice-write-xs Inv-loop μ-loop
-slice-write-xs c = omega arith
-
-add-k : tie.Need-add-k Inv-loop μ-loop
-add-k c = omega arith
-
-loop-less : tie.Need-loop-less Inv-loop μ-loop
-loop-less c = omega arith
-
 loop-again : tie.Need-loop-again Inv-loop μ-loop
 loop-again c = (omega arith, lowered-next _ _ _ _ (c .before .before .before .args .n) _ (omega arith) (omega arith) (omega arith) (c .before .before .loop .inv .1))
-
-same-length : tie.Need-same-length Inv-loop μ-loop
-same-length c = omega arith
 
 returns : tie.Need-returns Inv-loop μ-loop
 returns c = let e : c .before .loop .k ≡ c .before .before .args .n = omega arith in rw e at (c .before .loop .inv .1 .same)
@@ -55,14 +28,14 @@ move-down-spec =
     Inv-loop
     μ-loop
     loop-holds
-    add-xs
-    mul-xs
-    slice-read-xs
-    add-xs-2
-    mul-xs-2
-    slice-write-xs
-    add-k
-    loop-less
+    (λ c. omega arith)
+    (λ c. omega arith)
+    (λ c. omega arith)
+    (λ c. omega arith)
+    (λ c. omega arith)
+    (λ c. omega arith)
+    (λ c. omega arith)
+    (λ c. omega arith)
     loop-again
-    same-length
+    (λ c. omega arith)
     returns)

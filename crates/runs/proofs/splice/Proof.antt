@@ -5,24 +5,6 @@ use Rattle.runs.proofs.Laws.{splice-done}
 use Rattle.runs.proofs.splice.Statement.{statement}
 use Rattle.runs.proofs.splice.Tie as tie
 
-add-dst : tie.Need-add-dst
-add-dst c = search needs
-
-sub-rest : tie.Need-sub-rest
-sub-rest c = search needs
-
-shift-requires : tie.Need-shift-requires
-shift-requires c κs = search needs
-
-copy-in-requires : tie.Need-copy-in-requires
-copy-in-requires c κs = search needs
-
-add-result : tie.Need-add-result
-add-result c = search needs
-
-same-length : tie.Need-same-length
-same-length c = search needs
-
 returns : tie.Need-returns
 returns c =
     let copied = c .before .before in
@@ -35,4 +17,4 @@ returns c =
 pub splice-spec : {M : Type 1} → statement M
 splice-spec =
     tie.close
-    (tie.spec add-dst sub-rest shift-requires copy-in-requires add-result same-length returns)
+    (tie.spec (λ c. search needs) (λ c. search needs) (λ c κs. search needs) (λ c κs. search needs) (λ c. search needs) (λ c. search needs) returns)
