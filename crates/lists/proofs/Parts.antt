@@ -92,6 +92,13 @@ module _ {k k′ ys : List ℕ} (v : List ℕ) where
   possible-lent l =
       parts-are (l .below 0 256 (omega arith)) refl (l .below 256 1024 (omega arith)) refl (l .below 1280 256 (omega arith)) (l .below 1536 256 (omega arith)) refl (l .here)
 
+-- the columns lie below what is pending
+pub parts-same : (k k′ v : List ℕ) → take 1920 k′ ≡ take 1920 k → parts k′ v ≡ parts k v
+parts-same k k′ v e = parts-are (same 0 256 (omega arith)) refl (same 256 1024 (omega arith)) refl (same 1280 256 (omega arith)) (same 1536 256 (omega arith)) refl (same 1792 128 (omega arith))
+  where
+    same : (c m : ℕ) → c + m ≤ 1920 → part c m k′ ≡ part c m k
+    same c m h = sym (take-drop m c 1920 k′ h) ∙ ap (part c m) e ∙ take-drop m c 1920 k h
+
 pub part-length : (a n : ℕ) (xs : List ℕ) → a + n ≤ length xs → length (part a n xs) ≡ n
 unfolding part
 part-length a n xs h =
