@@ -1,17 +1,15 @@
 -- Setting a bit of an array of words: what each bit is afterwards.
-use Prim.Native.Nat.{ℕ, zero, suc, _+_, _-_, _*_, _/_, _%_, _^_, _≤_, _<_, max}
-use mathlib.Core.Path.{_≡_, refl, sym, _∙_, ap, ap₂, subst, fun-ext}
+use Prim.Native.Nat.{ℕ, zero, suc, _+_, _-_, _/_, _%_, _^_, _<_, max}
+use mathlib.Core.Path.{_≡_, refl, sym, _∙_, ap, fun-ext}
 use mathlib.Core.Bool.{Bool, true, false}
-use mathlib.Core.Logic.{_⊎_, inl, inr, ⊎-elim}
 use mathlib.Core.List.{List}
 use native.Mathlib.Omega.{arith}
 use native.Mathlib.Decide.{ℕ-discrete, decLt}
-use native.Mathlib.Nat.{div-eq-of-lt, div-self, pow-suc, mul-mod-left, mul-comm, one-mul, mod-lt}
-use native.Mathlib.Numerals.{add-one}
+use native.Mathlib.Nat.{div-eq-of-lt, div-self, pow-suc, mul-mod-left}
 use borrow.Author.Tests.{eq-eqb, ne-eqb}
 use lib.Dec.{eqb}
-use lib.Pow.{pow-add, shl-shr, pow-lt, pow-pos, shl-exact}
-use lib.Bits.{bitOr, or-shr, or-mod, or-zero-l, or-zero-r}
+use lib.Pow.{pow-add, shl-shr, pow-lt, pow-pos}
+use lib.Bits.{bitOr, or-shr, or-mod, or-zero-l}
 use lib.ListN.{getD, set, length, replicate}
 use lib.Seq.{getD-set-same, getD-set-other}
 use Rattle.rules.specs.Choice.{if}

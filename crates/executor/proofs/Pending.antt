@@ -1,5 +1,5 @@
 -- What `push` and `pop` ensure, and what the lists and the pending addresses keep of each other.
-use mathlib.Core.Path.{_≡_, refl, sym, ap, _∙_}
+use mathlib.Core.Path.{_≡_, refl, ap, _∙_}
 use mathlib.Core.List.{List, [], _∷_}
 use Prim.Native.Nat.{ℕ, suc, _+_, _-_, _<_, _≤_}
 use native.Mathlib.Omega.{arith}
@@ -7,12 +7,12 @@ use lib.Dec.{leb}
 use lib.ListN.{length, take, drop, getD}
 use lib.Seq.{getD-take, getD-drop}
 use borrow.Author.Tests.{le-leb, lt-leb}
-use Rattle.rules.specs.Choice.{if, if-true, if-false, by-if, ok, fault, limited}
+use Rattle.rules.specs.Choice.{if-true, if-false, by-if, ok, fault, limited}
 use Rattle.rules.specs.Step.{insert}
 use Rattle.lists.specs.View.{part, Parts, lists-of, view, Fit}
 use Rattle.lists.specs.declared.Small.{Small}
 use Rattle.lists.proofs.Parts.{Lent, over, lent, part-length, parts-same}
-use Rattle.executor.specs.Pending.{stack, pending, Told, IsPushed, IsPopped}
+use Rattle.executor.specs.Pending.{stack, pending, IsPushed, IsPopped}
 use Rattle.executor.proofs.Stack.{length-stack, stack-pop}
 
 length-insert : (a : ℕ) (l : List ℕ) → length (insert a l) ≡ suc (length l)

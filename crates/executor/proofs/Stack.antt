@@ -1,14 +1,13 @@
 -- Laws of `stack`: the first n elements of an array, the last first.
 use Prim.Native.Nat.{ℕ, zero, suc, _+_, _-_, _≤_, _<_}
 use mathlib.Core.Path.{_≡_, refl, sym, _∙_, ap, ap₂, subst}
-use mathlib.Core.Bool.{Bool, true, false}
 use mathlib.Core.List.{List, [], _∷_, _++_, append-assoc}
 use native.Mathlib.Omega.{arith}
 use borrow.Author.Tests.{lt-leb, le-leb}
 use native.Mathlib.Nat.{add-zero, add-suc, sub-self}
 use lib.ListN.{getD, set, length, length-set}
 use lib.Seq.{getD-set-same, getD-set-other}
-use Rattle.rules.specs.Choice.{if, if-true, if-false}
+use Rattle.rules.specs.Choice.{if-true, if-false}
 use Rattle.rules.specs.Step.{insert}
 use Rattle.executor.specs.Pending.{stack}
 

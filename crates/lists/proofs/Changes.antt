@@ -5,7 +5,7 @@ use Prim.Native.Nat.{ℕ, _≤_}
 use lib.ListN.{length, take}
 use Rattle.rules.specs.Ordered.{self, Rising}
 use Rattle.rules.specs.Blocks.{startOf}
-use Rattle.rules.specs.Slices.{Slices, fromOf, addressOf, with-blocks, with-ways, with-references, with-tables, with-possible}
+use Rattle.rules.specs.Slices.{fromOf, addressOf, with-blocks, with-ways, with-references, with-tables, with-possible}
 use Rattle.ordered.specs.Columns.{join}
 use Rattle.blocks.specs.Table.{rows}
 use Rattle.lists.specs.Groups.{ways-rows}

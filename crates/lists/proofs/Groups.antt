@@ -1,14 +1,13 @@
 -- Pairs grouped by the words that they are from: what a splice of pairs makes of the rows.
 use mathlib.Core.Path.{_≡_, refl, sym, ap, subst, _∙_}
 use mathlib.Core.List.{List, [], _∷_, _++_, map}
-use mathlib.Core.Bool.{Bool, true, false}
-use Prim.Native.Nat.{ℕ, zero, suc, _+_, _<_, _≤_}
+use Prim.Native.Nat.{ℕ, suc, _+_, _<_, _≤_}
 use native.Mathlib.Omega.{arith}
 use native.Mathlib.Decide.{ℕ-discrete, decLt}
 use lib.Dec.{ltb, eqb}
 use lib.ListN.{length, take, drop}
 use borrow.Author.Tests.{lt-ltb, le-ltb, eq-eqb, ne-eqb}
-use Rattle.rules.specs.Choice.{if, if-true, if-false, by-if}
+use Rattle.rules.specs.Choice.{if-true, if-false, by-if}
 use Rattle.rules.specs.Ordered.{rank, put, Above, Rising}
 use Rattle.rules.specs.Slices.{Ways, fromOf, count-ways}
 use Rattle.lists.specs.Groups.{Pair, pair, sourceOf, ways-of, add-way, grouped}

@@ -12,14 +12,14 @@ use lib.Seq.{drop-cons, getD-take, length-take-le, paste, take-paste, length-pas
 use borrow.Author.Tests.{le-leb, lt-leb}
 use Rattle.rules.specs.Choice.{if, if-true, if-false, any, ok}
 use Rattle.rules.specs.Ordered.{self, rank, upper, Rising}
-use Rattle.rules.specs.Blocks.{Block, block, is-open}
+use Rattle.rules.specs.Blocks.{block, is-open}
 use Rattle.rules.specs.Slices.{with-only}
 use Rattle.ordered.specs.Columns.{join}
 use Rattle.ordered.proofs.Columns.{same-size}
 use Rattle.blocks.specs.Table.{Table}
-use Rattle.lists.specs.View.{part, parts, view, only, Fit, Are, Is}
+use Rattle.lists.specs.View.{part, view, only, Fit, Are, Is}
 use Rattle.lists.specs.declared.Small.{Small}
-use Rattle.lists.proofs.Parts.{Lent, over, lent, part-length}
+use Rattle.lists.proofs.Parts.{Lent, over, part-length}
 use Rattle.lists.proofs.Stores.{is-ok, lent-part, references-lie, blocks-table}
 
 -- ---- from low to high

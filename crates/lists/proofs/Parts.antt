@@ -1,11 +1,11 @@
 -- A slice after a part of it was lent: the part is as it was left, and all else is as it was.
-use mathlib.Core.Path.{_≡_, refl, sym, ap, ap₂, _∙_}
+use mathlib.Core.Path.{_≡_, refl, sym, ap, _∙_}
 use mathlib.Core.List.{List, [], _∷_, _++_}
-use Prim.Native.Nat.{ℕ, zero, suc, _+_, _-_, _<_, _≤_}
+use Prim.Native.Nat.{ℕ, zero, suc, _+_, _-_, _≤_}
 use native.Mathlib.Omega.{arith}
-use lib.ListN.{length, take, drop, length-append, length-take, length-drop}
+use lib.ListN.{length, take, drop, length-append, length-drop}
 use lib.Seq.{drop-drop, length-take-le, take-append-le, drop-append-le, take-take, take-at, drop-at}
-use Rattle.lists.specs.View.{part, Parts, parts-of, parts}
+use Rattle.lists.specs.View.{part, parts-of, parts}
 
 -- xs with ys in the place of the n elements from a on
 abbrev pub over : ℕ → ℕ → List ℕ → List ℕ → List ℕ

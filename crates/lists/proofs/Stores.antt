@@ -1,17 +1,17 @@
 -- What each function that puts a row into a table ensures at each return, from what the function that it calls ensures.
-use mathlib.Core.Path.{_≡_, refl, sym, ap, _∙_}
-use mathlib.Core.List.{List, [], _∷_, map}
+use mathlib.Core.Path.{_≡_, refl, sym, _∙_}
+use mathlib.Core.List.{List}
 use mathlib.Core.Bool.{Bool, true, false}
-use Prim.Native.Nat.{ℕ, _+_, _<_, _≤_}
+use Prim.Native.Nat.{ℕ, _+_, _≤_}
 use native.Mathlib.Omega.{arith}
-use lib.Dec.{ltb, eqb}
+use lib.Dec.{ltb}
 use lib.ListN.{length, take, drop}
 use lib.Seq.{length-take-le}
 use borrow.Author.Tests.{ltb-true, ltb-false, lt-leb, le-leb}
 use Rattle.rules.specs.Choice.{if, if-true, if-false, Answer, ok, fault, _>>=_, limited}
 use Rattle.rules.specs.Ordered.{self, put, without, Rising}
 use Rattle.rules.specs.Blocks.{Block, block, startOf, mark, is-new}
-use Rattle.rules.specs.Slices.{Slices, with-blocks, with-references, with-possible, set-block, add-block-start, add-reference, add-possible, discard-possible}
+use Rattle.rules.specs.Slices.{Slices, with-blocks, with-possible, set-block, add-block-start, add-reference, add-possible, discard-possible}
 use Rattle.rules.proofs.Ordered.{put-rising, without-rising}
 use Rattle.rules.proofs.Blocks.{mark-rising}
 use Rattle.rules.proofs.Keeps.{without-few}
@@ -20,9 +20,8 @@ use Rattle.ordered.specs.declared.Insertion.{Insertion}
 use Rattle.blocks.specs.Table.{rows, Table, Room, Holds, IsStored, IsAdded}
 use Rattle.blocks.specs.declared.Stored.{Stored}
 use Rattle.blocks.specs.declared.Step.{Step}
-use Rattle.blocks.specs.declared.Added.{Added}
 use Rattle.blocks.specs.declared.Added.the-variants.{Yes, No, Full}
-use Rattle.lists.specs.View.{part, view, Fit, Are, Told, Is, IsMarked}
+use Rattle.lists.specs.View.{part, view, Fit, Are, Is, IsMarked}
 use Rattle.lists.specs.declared.Small.{Small}
 use Rattle.lists.proofs.Parts.{Lent, over, lent, part-length}
 use Rattle.lists.proofs.Changes.{counted, faulted, blocks-changed, references-changed, possible-changed}

@@ -5,18 +5,18 @@ use mathlib.Core.Bool.{Bool, true, false}
 use Prim.Native.Nat.{ℕ, _≤_}
 use native.Mathlib.Omega.{arith}
 use lib.Dec.{ltb, eqb}
-use lib.ListN.{length, take, drop, length-map}
+use lib.ListN.{length, take, length-map}
 use borrow.Author.Tests.{ltb-false}
-use Rattle.rules.specs.Choice.{if, if-false, ok}
+use Rattle.rules.specs.Choice.{if, if-false}
 use Rattle.rules.specs.Ordered.{put, Rising}
 use Rattle.rules.specs.Blocks.{Block, block, startOf}
-use Rattle.rules.specs.Slices.{Table, addressOf, with-tables, set-table}
+use Rattle.rules.specs.Slices.{Table, addressOf, set-table}
 use Rattle.rules.proofs.Ordered.{put-rising}
 use Rattle.ordered.specs.Columns.{join}
 use Rattle.blocks.specs.Table
 use Rattle.blocks.specs.Table.{rows, Room, Holds, IsStored}
 use Rattle.blocks.specs.declared.Stored.{Stored}
-use Rattle.lists.specs.View.{part, table, view, Fit, Are, Is}
+use Rattle.lists.specs.View.{part, table, view, Fit, Is}
 use Rattle.lists.specs.declared.Small.{Small}
 use Rattle.lists.proofs.Parts.{Lent, over, part-length}
 use Rattle.lists.proofs.Changes.{counted, faulted, tables-changed}

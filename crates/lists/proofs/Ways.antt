@@ -1,13 +1,13 @@
 -- Ways on in two columns: what `put_ways` and `set_ways` ensure.
 use mathlib.Core.Path.{_≡_, refl, sym, ap, ap₂, _∙_}
 use mathlib.Core.List.{List, [], _∷_, _++_, map, append-assoc}
-use mathlib.Core.Bool.{Bool, true, false}
+use mathlib.Core.Bool.{true, false}
 use Prim.Native.Nat.{ℕ, zero, suc, _+_, _-_, _<_, _≤_}
 use native.Mathlib.Nat.{suc-inj}
 use native.Mathlib.Omega.{arith}
-use lib.Dec.{ltb, leb}
+use lib.Dec.{ltb}
 use lib.ListN.{length, take, drop, replicate, length-append, length-drop, length-replicate, length-map}
-use lib.Seq.{slice, take-take, take-at, drop-at, length-take-le, length-slice}
+use lib.Seq.{slice, take-take, take-at, length-take-le, length-slice}
 use borrow.Author.Tests.{lt-ltb, le-ltb, ltb-true, ltb-false, le-leb, lt-leb}
 use Rattle.rules.specs.Choice.{if, if-true, if-false, ok, fault, _>>=_}
 use Rattle.rules.specs.Ordered.{self, rank, put, Rising}
@@ -18,7 +18,7 @@ use Rattle.ordered.specs.declared.Insertion.{Insertion}
 use Rattle.ordered.proofs.Columns.{rows-keys, rows-length, same-size}
 use Rattle.runs.specs.Runs.{Fits, spliced}
 use Rattle.lists.specs.Groups.{Pair, pair, sourceOf, ways-of, grouped, ways-rows, HasWays, IsPut}
-use Rattle.lists.specs.View.{part, view, Fit, Are, Is}
+use Rattle.lists.specs.View.{part, view, Fit, Is}
 use Rattle.lists.specs.declared.Small.{Small}
 use Rattle.lists.proofs.Parts.{Lent, over, part-length}
 use Rattle.lists.proofs.Changes.{counted, faulted, ways-changed}

@@ -8,7 +8,7 @@ ghost use lib.ListN.{length, take};
 ghost use Rattle.rules.specs.Ordered.{self, rank, has, upper, Rising};
 ghost use Rattle.rules.specs.Blocks.{block, startOf, first-start, last-start, last-end, first-disconnected-block, is-open};
 ghost use Rattle.rules.specs.Choice.{ok, any};
-ghost use Rattle.rules.specs.Slices.{set-block, add-block-start, set-ways, add-reference, set-table, add-possible, discard-possible, with-only};
+ghost use Rattle.rules.specs.Slices.{set-block, set-ways, add-reference, set-table, add-possible, discard-possible, with-only};
 ghost use Rattle.lists.specs.Groups.{HasWays, IsPut};
 ghost use Rattle.lists.specs.View.{view, only, Fit, Are, Is, IsMarked};
 

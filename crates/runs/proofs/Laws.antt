@@ -1,12 +1,12 @@
--- Laws of paste: what a loop that copies keeps, upwards and downwards. Assumes nothing.
+-- Laws of paste: what a loop that copies keeps, upwards and downwards.
 use mathlib.Core.Path.{_≡_, refl, sym, ap, ap₂, _∙_}
 use mathlib.Core.List.{List, [], _∷_, _++_, append-assoc, append-nil}
 use Prim.Native.Nat.{ℕ, zero, suc, _+_, _-_, _<_, _≤_}
-use native.Mathlib.Nat.{sub-zero, add-zero, add-suc, suc-add, zero-add}
+use native.Mathlib.Nat.{add-zero, add-suc, suc-add, zero-add}
 use native.Mathlib.Numerals.{add-one}
 use native.Mathlib.Omega.{arith}
-use lib.ListN.{length, take, drop, getD, set, replicate, length-set, length-append, length-take, length-drop, length-replicate, getD-replicate, replicate-append-replicate, take-append-drop, List·getD-append}
-use lib.Seq.{take-add, paste, paste-suc, paste-zero, length-paste, drop-paste, take-paste, slice, slice-empty, slice-cons, length-take-le, take-append-le, drop-append-le, take-take, drop-drop, getD-drop, getD-take, take-suc, take-all, take-nil, append-snoc, set-at, take-at, drop-at}
+use lib.ListN.{length, take, drop, getD, set, replicate, length-set, length-drop, length-replicate, getD-replicate, take-append-drop, List·getD-append}
+use lib.Seq.{take-add, paste, paste-suc, paste-zero, drop-paste, slice, slice-empty, slice-cons, length-take-le, take-append-le, take-take, getD-drop, getD-take, take-suc, take-all, take-nil, append-snoc, set-at, drop-at}
 use Rattle.runs.specs.Runs.{Fits, spliced}
 
 -- what stands after the part already pasted is as it was

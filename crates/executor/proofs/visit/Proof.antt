@@ -5,8 +5,6 @@ use native.Mathlib.Nat.{one-mul}
 use native.Mathlib.Omega.{arith}
 use lib.ListN.{length, length-set}
 use denote.Ref.{now}
-use Rattle.rules.specs.Walk.{with-one}
-use Rattle.executor.specs.Bits.{bit}
 use Rattle.executor.proofs.Bits.{bit-set}
 use borrow.Author.Needs.{needs}
 use Rattle.executor.proofs.visit.Statement.{statement}

@@ -1,4 +1,4 @@
-use Rattle.lists.specs.View.{part, view}
+use Rattle.lists.specs.View.{part}
 use Rattle.lists.proofs.Lookups.{copied-are}
 use borrow.Author.Needs.{needs}
 use Rattle.lists.proofs.copy_references.Statement.{statement}

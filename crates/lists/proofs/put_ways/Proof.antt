@@ -1,6 +1,6 @@
 use mathlib.Core.Path.{_≡_}
 use denote.Ref.{now}
-use Prim.Native.Nat.{_+_, _-_, _≤_, _<_}
+use Prim.Native.Nat.{_-_}
 use native.Mathlib.Omega.{arith}
 use Rattle.lists.proofs.Ways.{Placed, order, within, pairs-fit, ways-put, ways-full}
 use borrow.Author.Needs.{needs}

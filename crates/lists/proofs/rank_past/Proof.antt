@@ -1,4 +1,3 @@
-use borrow.Author.Needs.{needs}
 use borrow.Author.Count.{below-more}
 use native.Mathlib.Omega.{arith}
 use Prim.Native.Nat.{ℕ, suc, _<_, _≤_, _-_}

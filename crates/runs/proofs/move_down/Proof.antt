@@ -1,8 +1,8 @@
-use Prim.Native.Nat.{ℕ, suc, _≤_, _<_, _-_}
-use mathlib.Core.Path.{_≡_, refl, sym, ap, _∙_}
+use Prim.Native.Nat.{_≤_, _-_}
+use mathlib.Core.Path.{_≡_}
 use native.Mathlib.Omega.{arith}
-use lib.ListN.{length, drop, getD, replicate, length-set, length-replicate, getD-replicate}
-use Rattle.runs.proofs.Laws.{Copied, copied-start, copied-next, lowered-next, Raised, raised-start, raised-next, raised-end}
+use lib.ListN.{drop}
+use Rattle.runs.proofs.Laws.{Copied, copied-start, lowered-next}
 use Rattle.runs.proofs.move_down.Statement.{statement}
 use Rattle.runs.proofs.move_down.Tie as tie
 
