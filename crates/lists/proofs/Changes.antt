@@ -1,0 +1,114 @@
+-- One table changed in the part that was lent: the lists with that table anew.
+use mathlib.Core.Path.{_≡_, refl, ap, _∙_}
+use mathlib.Core.List.{List}
+use Prim.Native.Nat.{ℕ, _≤_}
+use lib.ListN.{length, take}
+use Rattle.rules.specs.Ordered.{self, Rising}
+use Rattle.rules.specs.Blocks.{startOf}
+use Rattle.rules.specs.Slices.{fromOf, addressOf, with-blocks, with-ways, with-references, with-tables, with-possible}
+use Rattle.ordered.specs.Columns.{join}
+use Rattle.blocks.specs.Table.{rows}
+use Rattle.lists.specs.Groups.{ways-rows}
+use Rattle.lists.specs.View.{Parts, parts-of, parts, lists-of, table, view, Held, Fit, Are}
+use Rattle.lists.specs.declared.Small.{Small}
+use Rattle.lists.proofs.Parts.{Lent, blocks-lent, ways-lent, references-lent, tables-lent, possible-lent}
+
+-- the counts anew
+abbrev pub counted : Small → ℕ → ℕ → ℕ → ℕ → ℕ → Small
+counted s b w r t p =
+    record { blocks = b; ways = w; references = r; tables = t; possible = p; prologue = s .prologue; epilogue = s .epilogue; conditional = s .conditional; rfi = s .rfi; load = s .load; finalized = s .finalized; fault = s .fault }
+
+-- a fault
+abbrev pub faulted : Small → ℕ → Small
+faulted s n =
+    record { blocks = s .blocks; ways = s .ways; references = s .references; tables = s .tables; possible = s .possible; prologue = s .prologue; epilogue = s .epilogue; conditional = s .conditional; rfi = s .rfi; load = s .load; finalized = s .finalized; fault = n }
+
+module _ (k v : List ℕ) (s : Small) (f : Fit k v s) (fine : s .fault ≡ 0) where
+  P : Parts
+  P = parts k v
+
+  -- the lists by their columns
+  are : (k′ v′ : List ℕ) (p : Parts) (t : Small) → parts k′ v′ ≡ p → length k′ ≡ length k → length v′ ≡ length v → Held p t → t .fault ≡ 0 → Are (lists-of p t) k′ v′ t
+  unfolding view
+  are k′ v′ p t e lk lv h z =
+      record { fit = record { keys = lk ∙ f .keys; values = lv ∙ f .values; held = rw e h }; same = ap (λ (q : Parts). lists-of q t) e; fine = z }
+
+  pub blocks-changed : (ys zs k′ v′ : List ℕ) (n : ℕ) → Lent 0 256 k ys k′ → Lent 0 256 v zs v′ → n ≤ 256 → Rising startOf (rows n ys zs) → Are (with-blocks (view k v s) (rows n ys zs)) k′ v′ (counted s n (s .ways) (s .references) (s .tables) (s .possible))
+  unfolding view P
+  blocks-changed ys zs k′ v′ n lk lv h rise =
+      are k′ v′ (parts-of ys zs (P .froms) (P .tos) (P .references) (P .addresses) (P .sizes) (P .possible)) (counted s n (s .ways) (s .references) (s .tables) (s .possible)) (blocks-lent lk lv) (lk .size) (lv .size) (record {
+        blocks-fit = h;
+        ways-fit = f .held .ways-fit;
+        references-fit = f .held .references-fit;
+        tables-fit = f .held .tables-fit;
+        possible-fit = f .held .possible-fit;
+        blocks-rise = rise;
+        ways-rise = f .held .ways-rise;
+        references-rise = f .held .references-rise;
+        tables-rise = f .held .tables-rise;
+        possible-rise = f .held .possible-rise;
+      }) fine
+
+  pub ways-changed : (ys zs k′ v′ : List ℕ) (n : ℕ) → Lent 256 1024 k ys k′ → Lent 256 1024 v zs v′ → n ≤ 1024 → Rising fromOf (ways-rows n ys zs) → Are (with-ways (view k v s) (ways-rows n ys zs)) k′ v′ (counted s (s .blocks) n (s .references) (s .tables) (s .possible))
+  unfolding view P
+  ways-changed ys zs k′ v′ n lk lv h rise =
+      are k′ v′ (parts-of (P .starts) (P .ends) ys zs (P .references) (P .addresses) (P .sizes) (P .possible)) (counted s (s .blocks) n (s .references) (s .tables) (s .possible)) (ways-lent lk lv) (lk .size) (lv .size) (record {
+        blocks-fit = f .held .blocks-fit;
+        ways-fit = h;
+        references-fit = f .held .references-fit;
+        tables-fit = f .held .tables-fit;
+        possible-fit = f .held .possible-fit;
+        blocks-rise = f .held .blocks-rise;
+        ways-rise = rise;
+        references-rise = f .held .references-rise;
+        tables-rise = f .held .tables-rise;
+        possible-rise = f .held .possible-rise;
+      }) fine
+
+  pub references-changed : (ys k′ : List ℕ) (n : ℕ) → Lent 1280 256 k ys k′ → n ≤ 256 → Rising self (take n ys) → Are (with-references (view k v s) (take n ys)) k′ v (counted s (s .blocks) (s .ways) n (s .tables) (s .possible))
+  unfolding view P
+  references-changed ys k′ n lk h rise =
+      are k′ v (parts-of (P .starts) (P .ends) (P .froms) (P .tos) ys (P .addresses) (P .sizes) (P .possible)) (counted s (s .blocks) (s .ways) n (s .tables) (s .possible)) (references-lent v lk) (lk .size) refl (record {
+        blocks-fit = f .held .blocks-fit;
+        ways-fit = f .held .ways-fit;
+        references-fit = h;
+        tables-fit = f .held .tables-fit;
+        possible-fit = f .held .possible-fit;
+        blocks-rise = f .held .blocks-rise;
+        ways-rise = f .held .ways-rise;
+        references-rise = rise;
+        tables-rise = f .held .tables-rise;
+        possible-rise = f .held .possible-rise;
+      }) fine
+
+  pub tables-changed : (ys zs k′ v′ : List ℕ) (n : ℕ) → Lent 1536 256 k ys k′ → Lent 1280 256 v zs v′ → n ≤ 256 → Rising addressOf (join table (take n ys) (take n zs)) → Are (with-tables (view k v s) (join table (take n ys) (take n zs))) k′ v′ (counted s (s .blocks) (s .ways) (s .references) n (s .possible))
+  unfolding view P
+  tables-changed ys zs k′ v′ n lk lv h rise =
+      are k′ v′ (parts-of (P .starts) (P .ends) (P .froms) (P .tos) (P .references) ys zs (P .possible)) (counted s (s .blocks) (s .ways) (s .references) n (s .possible)) (tables-lent lk lv) (lk .size) (lv .size) (record {
+        blocks-fit = f .held .blocks-fit;
+        ways-fit = f .held .ways-fit;
+        references-fit = f .held .references-fit;
+        tables-fit = h;
+        possible-fit = f .held .possible-fit;
+        blocks-rise = f .held .blocks-rise;
+        ways-rise = f .held .ways-rise;
+        references-rise = f .held .references-rise;
+        tables-rise = rise;
+        possible-rise = f .held .possible-rise;
+      }) fine
+
+  pub possible-changed : (ys k′ : List ℕ) (n : ℕ) → Lent 1792 128 k ys k′ → n ≤ 128 → Rising self (take n ys) → Are (with-possible (view k v s) (take n ys)) k′ v (counted s (s .blocks) (s .ways) (s .references) (s .tables) n)
+  unfolding view P
+  possible-changed ys k′ n lk h rise =
+      are k′ v (parts-of (P .starts) (P .ends) (P .froms) (P .tos) (P .references) (P .addresses) (P .sizes) ys) (counted s (s .blocks) (s .ways) (s .references) (s .tables) n) (possible-lent v lk) (lk .size) refl (record {
+        blocks-fit = f .held .blocks-fit;
+        ways-fit = f .held .ways-fit;
+        references-fit = f .held .references-fit;
+        tables-fit = f .held .tables-fit;
+        possible-fit = h;
+        blocks-rise = f .held .blocks-rise;
+        ways-rise = f .held .ways-rise;
+        references-rise = f .held .references-rise;
+        tables-rise = f .held .tables-rise;
+        possible-rise = rise;
+      }) fine

@@ -1,0 +1,222 @@
+-- What each function that puts a row into a table ensures at each return, from what the function that it calls ensures.
+use mathlib.Core.Path.{_≡_, refl, sym, _∙_}
+use mathlib.Core.List.{List}
+use mathlib.Core.Bool.{Bool, true, false}
+use Prim.Native.Nat.{ℕ, _+_, _≤_}
+use native.Mathlib.Omega.{arith}
+use lib.Dec.{ltb}
+use lib.ListN.{length, take, drop}
+use lib.Seq.{length-take-le}
+use borrow.Author.Tests.{ltb-true, ltb-false, lt-leb, le-leb}
+use Rattle.rules.specs.Choice.{if, if-true, if-false, Answer, ok, fault, _>>=_, limited}
+use Rattle.rules.specs.Ordered.{self, put, without, Rising}
+use Rattle.rules.specs.Blocks.{Block, block, startOf, mark, is-new}
+use Rattle.rules.specs.Slices.{Slices, with-blocks, with-possible, set-block, add-block-start, add-reference, add-possible, discard-possible}
+use Rattle.rules.proofs.Ordered.{put-rising, without-rising}
+use Rattle.rules.proofs.Blocks.{mark-rising}
+use Rattle.rules.proofs.Keeps.{without-few}
+use Rattle.ordered.specs.Part.{Changed, IsInserted, IsRemoved}
+use Rattle.ordered.specs.declared.Insertion.{Insertion}
+use Rattle.blocks.specs.Table.{rows, Table, Room, Holds, IsStored, IsAdded}
+use Rattle.blocks.specs.declared.Stored.{Stored}
+use Rattle.blocks.specs.declared.Step.{Step}
+use Rattle.blocks.specs.declared.Added.the-variants.{Yes, No, Full}
+use Rattle.lists.specs.View.{part, view, Fit, Are, Is, IsMarked}
+use Rattle.lists.specs.declared.Small.{Small}
+use Rattle.lists.proofs.Parts.{Lent, over, lent, part-length}
+use Rattle.lists.proofs.Changes.{counted, faulted, blocks-changed, references-changed, possible-changed}
+
+-- ---- a limited list
+
+module _ {A : Type 0} (n : ℕ) (l : List A) (f : List A → Slices) where
+  pub limit-over : ltb n (length l) ≡ true → (limited n l >>= λ x. ok (f x)) ≡ fault 4
+  unfolding limited _>>=_
+  limit-over h = rw (if-false (lt-leb (length l) n (ltb-true n (length l) h)) (ok l) (fault 4))
+
+  pub limit-within : ltb n (length l) ≡ false → (limited n l >>= λ x. ok (f x)) ≡ ok (f l)
+  unfolding limited _>>=_
+  limit-within h = rw (if-true (le-leb (length l) n (ltb-false n (length l) h)) (ok l) (fault 4))
+
+-- ---- the answer and what is pending
+
+module _ {a : Answer Slices} {k k′ v′ : List ℕ} (pending : drop 1920 k′ ≡ drop 1920 k) where
+  pub is-over : (s : Small) → a ≡ fault 4 → Is a k k′ v′ (faulted s 4)
+  is-over s e = record { told = rw e refl; pending = pending }
+
+  pub is-ok : {x : Slices} {t : Small} → a ≡ ok x → Are x k′ v′ t → Is a k k′ v′ t
+  is-ok e h = record { told = rw e h; pending = pending }
+
+-- a part lent to a function that keeps its length
+pub lent-part : (a n : ℕ) (xs ys : List ℕ) → a + n ≤ length xs → length ys ≡ length (part a n xs) → Lent a n xs ys (over a n xs ys)
+lent-part a n xs ys h e = lent a n xs ys h (e ∙ part-length a n xs h)
+
+-- ---- blocks
+
+-- what the answer of a mark tells
+was-full : (full new : Bool) → if full Full (if new Yes No) ≡ Full → full ≡ true
+unfolding if
+was-full true new e = refl
+was-full false true e = cc
+was-full false false e = cc
+
+was-yes : (full new : Bool) → if full Full (if new Yes No) ≡ Yes → (full ≡ false) × (new ≡ true)
+unfolding if
+was-yes true new e = (cc, cc)
+was-yes false true e = (refl, refl)
+was-yes false false e = (refl, cc)
+
+was-no : (full new : Bool) → if full Full (if new Yes No) ≡ No → (full ≡ false) × (new ≡ false)
+unfolding if
+was-no true new e = (cc, cc)
+was-no false true e = (refl, cc)
+was-no false false e = (refl, refl)
+
+module _ (k v : List ℕ) (s : Small) (f : Fit k v s) where
+  starts-long : length (part 0 256 k) ≡ 256
+  starts-long = part-length 0 256 k (omega (arith, f .keys))
+
+  ends-long : length (part 0 256 v) ≡ 256
+  ends-long = part-length 0 256 v (omega (arith, f .values))
+
+  pub blocks-table : Table (s .blocks) (part 0 256 k) (part 0 256 v)
+  blocks-table =
+      let h : s .blocks ≤ 256 = f .held .blocks-fit in
+      record { starts = omega (arith, starts-long); ends = omega (arith, ends-long); rising = f .held .blocks-rise }
+
+  pub blocks-room : Room (s .blocks) 256 (part 0 256 k) (part 0 256 v)
+  blocks-room = record { count = f .held .blocks-fit; starts = omega (arith, starts-long); ends = omega (arith, ends-long) }
+
+module _ (k v : List ℕ) (s : Small) (f : Fit k v s) (fine : s .fault ≡ 0) where
+  module _ (n : ℕ) (bs : List Block) (ss es : List ℕ) (h : Holds n bs (part 0 256 k) (part 0 256 v) ss es) where
+    lent-starts : Lent 0 256 k ss (over 0 256 k ss)
+    lent-starts = lent-part 0 256 k ss (omega (arith, f .keys)) (h .size-starts)
+
+    lent-ends : Lent 0 256 v es (over 0 256 v es)
+    lent-ends = lent-part 0 256 v es (omega (arith, f .values)) (h .size-ends)
+
+    blocks-pending : drop 1920 (over 0 256 k ss) ≡ drop 1920 k
+    blocks-pending = lent-starts .past 1920 (omega arith)
+
+    blocks-are : length bs ≤ 256 → Rising startOf bs → Are (with-blocks (view k v s) bs) (over 0 256 k ss) (over 0 256 v es) (counted s n (s .ways) (s .references) (s .tables) (s .possible))
+    blocks-are le rise =
+        rw (h .live) at (blocks-changed k v s f fine ss es (over 0 256 k ss) (over 0 256 v es) n lent-starts lent-ends (omega (arith, h .count)) (rw (h .live) rise))
+
+  module _ (b e : ℕ) (ss es : List ℕ) (r : Stored) (is : IsStored (s .blocks) 256 (block b e) (part 0 256 k) (part 0 256 v) ss es r) where
+    pub set-block-full : r .full ≡ true → Is (set-block b e (view k v s)) k (over 0 256 k ss) (over 0 256 v es) (faulted s 4)
+    unfolding set-block view
+    set-block-full full = is-over (blocks-pending _ _ ss es (is .table)) s (limit-over 256 _ _ (sym (is .full) ∙ full))
+
+    pub set-block-done : r .full ≡ false → Is (set-block b e (view k v s)) k (over 0 256 k ss) (over 0 256 v es) (counted s (r .count) (s .ways) (s .references) (s .tables) (s .possible))
+    unfolding set-block view
+    set-block-done done =
+        let old : List Block = rows (s .blocks) (part 0 256 k) (part 0 256 v) in
+        let new : Holds (r .count) (put startOf (block b e) old) (part 0 256 k) (part 0 256 v) ss es = rw (if-false done old (put startOf (block b e) old)) at (is .table) in
+        let fits : ltb 256 (length (put startOf (block b e) old)) ≡ false = sym (is .full) ∙ done in
+        is-ok (blocks-pending _ _ ss es new) (limit-within 256 _ _ fits) (blocks-are _ _ ss es new (ltb-false _ _ fits) (put-rising startOf (block b e) old (f .held .blocks-rise)))
+
+  module _ (a : ℕ) (ss es : List ℕ) (r : Step) (is : IsAdded (s .blocks) 256 a (part 0 256 k) (part 0 256 v) ss es r) where
+    bs : List Block
+    bs = rows (s .blocks) (part 0 256 k) (part 0 256 v)
+
+    pub marked-full : r .added ≡ Full → IsMarked a k v s (over 0 256 k ss) (over 0 256 v es) (record { small = faulted s 4; new = false })
+    unfolding add-block-start view bs
+    marked-full e =
+        let full : ltb 256 (length (mark a bs)) ≡ true = was-full _ _ (sym (is .answer) ∙ e) in
+        let over-limit : add-block-start a (view k v s) ≡ fault 4 = limit-over 256 _ _ full in
+        record { lists = is-over (blocks-pending _ _ ss es (is .table)) s over-limit; new = rw over-limit }
+
+    marked-done : (code : Bool) → ltb 256 (length (mark a bs)) ≡ false → is-new a bs ≡ code → IsMarked a k v s (over 0 256 k ss) (over 0 256 v es) (record { small = counted s (r .count) (s .ways) (s .references) (s .tables) (s .possible); new = code })
+    unfolding add-block-start view bs
+    marked-done code fits opened =
+        let new : Holds (r .count) (mark a bs) (part 0 256 k) (part 0 256 v) ss es = rw (if-false fits bs (mark a bs)) at (is .table) in
+        let within : add-block-start a (view k v s) ≡ ok (with-blocks (view k v s) (mark a bs)) = limit-within 256 _ _ fits in
+        record {
+          lists = is-ok (blocks-pending _ _ ss es new) within (blocks-are _ _ ss es new (ltb-false _ _ fits) (mark-rising a bs (f .held .blocks-rise)));
+          new = sym (rw within opened);
+        }
+
+    pub marked-yes : r .added ≡ Yes → IsMarked a k v s (over 0 256 k ss) (over 0 256 v es) (record { small = counted s (r .count) (s .ways) (s .references) (s .tables) (s .possible); new = true })
+    unfolding bs
+    marked-yes e = marked-done true (was-yes _ _ (sym (is .answer) ∙ e) .0) (was-yes _ _ (sym (is .answer) ∙ e) .1)
+
+    pub marked-no : r .added ≡ No → IsMarked a k v s (over 0 256 k ss) (over 0 256 v es) (record { small = counted s (r .count) (s .ways) (s .references) (s .tables) (s .possible); new = false })
+    unfolding bs
+    marked-no e = marked-done false (was-no _ _ (sym (is .answer) ∙ e) .0) (was-no _ _ (sym (is .answer) ∙ e) .1)
+
+-- ---- references
+
+module _ (k v : List ℕ) (s : Small) (f : Fit k v s) where
+  references-long : length (part 1280 256 k) ≡ 256
+  references-long = part-length 1280 256 k (omega (arith, f .keys))
+
+  pub references-lie : s .references ≤ length (part 1280 256 k)
+  references-lie = omega (arith, references-long, f .held .references-fit)
+
+  pub references-room : (s .references ≤ 256) × (256 ≤ length (part 1280 256 k)) × Rising self (take (s .references) (part 1280 256 k))
+  references-room = (f .held .references-fit, omega (arith, references-long), f .held .references-rise)
+
+module _ (k v : List ℕ) (s : Small) (f : Fit k v s) (fine : s .fault ≡ 0) where
+  module _ (a : ℕ) (rs : List ℕ) (r : Insertion) (is : IsInserted (part 1280 256 k) rs (s .references) 256 a r) where
+    lent-references : Lent 1280 256 k rs (over 1280 256 k rs)
+    lent-references = lent-part 1280 256 k rs (omega (arith, f .keys)) (is .set .size)
+
+    pub reference-full : r .full ≡ true → Is (add-reference a (view k v s)) k (over 1280 256 k rs) v (faulted s 4)
+    unfolding add-reference view
+    reference-full full = is-over (lent-references .past 1920 (omega arith)) s (limit-over 256 _ _ (sym (is .full) ∙ full))
+
+    pub reference-done : r .full ≡ false → Is (add-reference a (view k v s)) k (over 1280 256 k rs) v (counted s (s .blocks) (s .ways) (r .count) (s .tables) (s .possible))
+    unfolding add-reference view
+    reference-done done =
+        let old : List ℕ = take (s .references) (part 1280 256 k) in
+        let fits : ltb 256 (length (put self a old)) ≡ false = sym (is .full) ∙ done in
+        let few : length (put self a old) ≤ 256 = ltb-false _ _ fits in
+        let new : Changed (part 1280 256 k) rs (r .count) (put self a old) (drop (r .count) (part 1280 256 k)) = rw (if-false done old (put self a old)) at (is .set) in
+        is-ok (lent-references .past 1920 (omega arith)) (limit-within 256 _ _ fits)
+        (rw (new .live) at (references-changed k v s f fine rs (over 1280 256 k rs) (r .count) lent-references (omega (arith, new .count)) (rw (new .live) (put-rising self a old (f .held .references-rise)))))
+
+-- ---- possible blocks
+
+module _ (k v : List ℕ) (s : Small) (f : Fit k v s) where
+  possible-long : length (part 1792 128 k) ≡ 128
+  possible-long = part-length 1792 128 k (omega (arith, f .keys))
+
+  pub possible-lie : s .possible ≤ length (part 1792 128 k)
+  possible-lie = omega (arith, possible-long, f .held .possible-fit)
+
+  pub possible-room : (s .possible ≤ 128) × (128 ≤ length (part 1792 128 k)) × Rising self (take (s .possible) (part 1792 128 k))
+  possible-room = (f .held .possible-fit, omega (arith, possible-long), f .held .possible-rise)
+
+module _ (k v : List ℕ) (s : Small) (f : Fit k v s) (fine : s .fault ≡ 0) where
+  module _ (ps : List ℕ) (size : length ps ≡ length (part 1792 128 k)) where
+    lent-possible : Lent 1792 128 k ps (over 1792 128 k ps)
+    lent-possible = lent-part 1792 128 k ps (omega (arith, f .keys)) size
+
+    possible-pending : drop 1920 (over 1792 128 k ps) ≡ drop 1920 k
+    possible-pending = lent-possible .past 1920 (omega arith)
+
+    possible-are : (n : ℕ) (l : List ℕ) → take n ps ≡ l → n ≤ 128 → Rising self l → Are (with-possible (view k v s) l) (over 1792 128 k ps) v (counted s (s .blocks) (s .ways) (s .references) (s .tables) n)
+    possible-are n l e h rise = rw e at (possible-changed k v s f fine ps (over 1792 128 k ps) n lent-possible h (rw e rise))
+
+  module _ (a : ℕ) (ps : List ℕ) (r : Insertion) (is : IsInserted (part 1792 128 k) ps (s .possible) 128 a r) where
+    pub possible-full : r .full ≡ true → Is (add-possible a (view k v s)) k (over 1792 128 k ps) v (faulted s 4)
+    unfolding add-possible view
+    possible-full full = is-over (possible-pending ps (is .set .size)) s (limit-over 128 _ _ (sym (is .full) ∙ full))
+
+    pub possible-done : r .full ≡ false → Is (add-possible a (view k v s)) k (over 1792 128 k ps) v (counted s (s .blocks) (s .ways) (s .references) (s .tables) (r .count))
+    unfolding add-possible view
+    possible-done done =
+        let old : List ℕ = take (s .possible) (part 1792 128 k) in
+        let fits : ltb 128 (length (put self a old)) ≡ false = sym (is .full) ∙ done in
+        let few : length (put self a old) ≤ 128 = ltb-false _ _ fits in
+        let new : Changed (part 1792 128 k) ps (r .count) (put self a old) (drop (r .count) (part 1792 128 k)) = rw (if-false done old (put self a old)) at (is .set) in
+        is-ok (possible-pending ps (is .set .size)) (limit-within 128 _ _ fits)
+        (possible-are ps (is .set .size) (r .count) _ (new .live) (omega (arith, new .count)) (put-rising self a old (f .held .possible-rise)))
+
+  pub possible-gone : (a : ℕ) (ps : List ℕ) (n : ℕ) → IsRemoved (part 1792 128 k) ps (s .possible) a n → Is (ok (discard-possible a (view k v s))) k (over 1792 128 k ps) v (counted s (s .blocks) (s .ways) (s .references) (s .tables) n)
+  unfolding discard-possible view
+  possible-gone a ps n is =
+      let old : List ℕ = take (s .possible) (part 1792 128 k) in
+      let long : length old ≡ s .possible = length-take-le (s .possible) (part 1792 128 k) (possible-lie k v s f) in
+      let fewer : length (without self a old) ≤ length old = without-few a old in
+      is-ok (possible-pending ps (is .size)) refl
+      (possible-are ps (is .size) n _ (is .live) (omega (arith, is .count, f .held .possible-fit)) (without-rising self a old (f .held .possible-rise)))
