@@ -42,7 +42,7 @@ fn failed(entries: &mut [u64], n: usize, fault: u32) -> Table
 }
 
 // The address that a word is, with its section; 0 where it is none.
-fn target(sections: &[u32], v: u32) -> u64
+fn located(sections: &[u32], v: u32) -> u64
     requires { ⌜ Few (now sections) ⌝ }
     ensures { λ r. ⌜ r ≡ images.locate (seen (now (sections .entry))) v ⌝ }
 {
@@ -91,7 +91,7 @@ fn sized_word(sections: &[u32], entries: &mut [u64], s: Reading, v: u32) -> Read
     if v == 0 {
         return s;
     }
-    let t = target(sections, v);
+    let t = located(sections, v);
     if t == 0 {
         return Reading {
             count: s.count,
@@ -171,7 +171,7 @@ fn unsized_entries(
     let mut at: usize = 0;
     while 4 <= words.len() - at {
         let v = ppc::words::word_at(words, at);
-        let t = target(sections, v);
+        let t = located(sections, v);
         if !is_inside(first, past, t) {
             return read_so_far(s);
         }

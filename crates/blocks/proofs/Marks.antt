@@ -9,7 +9,8 @@ use lib.ListN.{length, drop, take-append-drop}
 use borrow.Author.Tests.{le-leb, lt-leb, leb-true, ltb-true, ltb-false, eq-eqb, ne-eqb}
 use Rattle.rules.specs.Choice.{if, if-true, if-false, ok, fault}
 use Rattle.rules.specs.Blocks.{Block, block, startOf, mark, is-new, is-aligned, is-table, mark-in, most-blocks}
-use Rattle.rules.proofs.Blocks.{and-left, and-right, table-rising, length-mark-le}
+use Rattle.rules.proofs.Blocks.{and-left, and-right, table-rising}
+use Rattle.rules.proofs.Sizes.{mark-grows}
 use Rattle.ordered.proofs.Columns.{rows-keys, rows-values}
 use Rattle.blocks.specs.Table.{rows, Table, Room, Holds, IsAdded}
 use Rattle.blocks.specs.Marks.{endOf, lent, markable, mark-lent, number-by, new-by, IsAnswered, IsMarking}
@@ -107,7 +108,7 @@ module _ (n a : ℕ) (ss es : List ℕ) where
     marked h = if-true fits _ _ ∙ if-true holds _ _ ∙ if-true (le-leb _ _ h) _ _
 
     pub too-many : (room : ℕ) → room ≡ most-blocks (min (length ss) (length es)) → room < n → IsMarking (mark-lent n a ss es) n ss es ss es (record { number = 4; count = n; new = false })
-    too-many room r h = faulty 4 (passed (omega (arith, length-mark-le a (rows n ss es) (table-is .rising), long)))
+    too-many room r h = faulty 4 (passed (omega (arith, mark-grows a (rows n ss es), long)))
 
     module _ (room : ℕ) (ss′ es′ : List ℕ) (s : Step) (m : Marking) (r : room ≡ most-blocks (min (length ss) (length es))) (h : n ≤ room) (w : IsAdded n room a ss es ss′ es′ s) (by : IsAnswered s m) where
       full : ltb room (length (mark a (rows n ss es))) ≡ true → IsMarking (mark-lent n a ss es) n ss es ss′ es′ m

@@ -7,8 +7,8 @@ use Rattle.analysis.proofs.sized_word.Tie as tie
 returns : tie.Need-returns
 returns c = search (needs, passed-over)
 
-target-requires : tie.Need-target-requires
-target-requires c κs = search needs
+located-requires : tie.Need-located-requires
+located-requires c κs = search needs
 
 returns-2 : tie.Need-returns-2
 returns-2 c = search (needs, nowhere)
@@ -25,4 +25,4 @@ returns-3 c = search (needs, sized-taken)
 pub sized-word-spec : {M : Type 1} → statement M
 sized-word-spec =
     tie.close
-    (tie.spec returns target-requires returns-2 take-entry-requires same-length returns-3)
+    (tie.spec returns located-requires returns-2 take-entry-requires same-length returns-3)
