@@ -336,17 +336,17 @@ pub fn section_of(sections: &[u32], k: u64) -> Part
     let mut at: usize = 0;
     let mut offset: usize = 0;
     while at < sections.len() {
-        let s = section_at(sections, at);
+        let row = section_at(sections, at);
         if left == 0 {
             return Part {
-                kind: s.kind,
-                base: s.base,
-                size: s.size,
+                kind: row.kind,
+                base: row.base,
+                size: row.size,
                 offset,
             };
         }
         left -= 1;
-        offset += wide(s.given) as usize;
+        offset += wide(row.given) as usize;
         at += 4;
     }
     Part {
