@@ -21,7 +21,7 @@ use Rattle.executor.specs.Pending as pendings
 use Rattle.executor.specs.Pending.{pending, IsPushed}
 use Rattle.executor.specs.declared.Pushed.{Pushed}
 use Rattle.executor.proofs.Pending.{pending-same, lists-same, lists-fit}
-use Rattle.walk.specs.State.{walk-of, with-small, place-of, Fits, Going, answer, Is}
+use Rattle.walk.specs.State.{walk-of, with-small, faulting, place-of, Fits, Going, answer, Is, Listed}
 use Rattle.walk.specs.declared.Walk.{Walk}
 
 module _ (vis : ℕ → Bool) (k v : List ℕ) (w : Walk) where
@@ -63,14 +63,36 @@ going-on i z = record { fits = i .fits z; fine = z }
 not-zero : {n : ℕ} → Number n → n ≡ 0 → ⊥
 not-zero h z = absurd (omega arith)
 
--- the lists' answer as told
-pub record Listed (a : Answer Slices) (k v : List ℕ) (s : Small) : Type 0 where
-  pub is : a ≡ if (eqb (s .fault) 0) (ok (view k v s)) (fault (s .fault))
-  pub fit : s .fault ≡ 0 → Fit k v s
-
 pub listed : (a : Answer Slices) (k v : List ℕ) (s : Small) → Met a → lists.Told a k v s → Listed a k v s
 listed (ok x) k v s m t = record { is = ap ok (sym (t .same)) ∙ sym (if-true (eq-eqb _ _ (t .fine)) _ _); fit = λ _. t .fit }
 listed (fault n) k v s (number h) t = record { is = ap fault (sym t) ∙ sym (if-false (ne-eqb _ _ (λ z. not-zero h (sym t ∙ z))) _ _); fit = λ z. absurd (not-zero h (sym t ∙ z)) }
+
+pub listed-ok : (k v : List ℕ) (s : Small) {x : Slices} → x ≡ view k v s → s .fault ≡ 0 → Fit k v s → Listed (ok x) k v s
+listed-ok k v s e z f = record { is = ap ok e ∙ sym (if-true (eq-eqb _ _ z) _ _); fit = λ _. f }
+
+pub listed-fault : (k v : List ℕ) (s : Small) {n : ℕ} → s .fault ≡ n → (n ≡ 0 → ⊥) → Listed (fault n) k v s
+listed-fault k v s e z = record { is = ap fault (sym e) ∙ sym (if-false (ne-eqb _ _ (λ q. z (sym e ∙ q))) _ _); fit = λ q. absurd (z (sym e ∙ q)) }
+
+-- lists with the same counts
+pub refit : (k v : List ℕ) (s r : Small) → r .blocks ≡ s .blocks → r .ways ≡ s .ways → r .references ≡ s .references → r .tables ≡ s .tables → r .possible ≡ s .possible → Fit k v s → Fit k v r
+refit k v s r b w c t p f =
+    record {
+      keys = f .keys;
+      values = f .values;
+      held =
+          record {
+            blocks-fit = rw b (f .held .blocks-fit);
+            ways-fit = rw w (f .held .ways-fit);
+            references-fit = rw c (f .held .references-fit);
+            tables-fit = rw t (f .held .tables-fit);
+            possible-fit = rw p (f .held .possible-fit);
+            blocks-rise = rw b (f .held .blocks-rise);
+            ways-rise = rw w (f .held .ways-rise);
+            references-rise = rw c (f .held .references-rise);
+            tables-rise = rw t (f .held .tables-rise);
+            possible-rise = rw p (f .held .possible-rise);
+          };
+    }
 
 -- the state after a change of the lists, at a place that fits
 module _ (vis : ℕ → Bool) (k v k′ v′ : List ℕ) (w r : Walk) (going : Going k v w) (same : drop 1920 k′ ≡ drop 1920 k) where
@@ -108,11 +130,6 @@ block-ended vis k v k′ v′ w s addr block g i =
 
 -- ---- a push
 
--- the counts with a fault, 0 for none
-abbrev pub faulting : Small → ℕ → Small
-faulting s n =
-    record { blocks = s .blocks; ways = s .ways; references = s .references; tables = s .tables; possible = s .possible; prologue = s .prologue; epilogue = s .epilogue; conditional = s .conditional; rfi = s .rfi; load = s .load; finalized = s .finalized; fault = n }
-
 abbrev pub pushing : Walk → Pushed → Walk
 pushing w p = record { small = faulting (w .small) (p .fault); pending = p .count; fresh = w .fresh; place = w .place; at = w .at; block = w .block }
 
@@ -121,7 +138,7 @@ module _ (vis : ℕ → Bool) (k v k′ : List ℕ) (w : Walk) (p : Pushed) (add
   unfolding _>>=_ walk-of place-of view
   pushed-as (ok l) m t e n =
       is-ok vis k′ v (pushing w p) (rw (t .0, lists-same k k′ v (w .small) e) refl) (t .2)
-      (record { lists = let f : Fit k′ v (w .small) = lists-fit k k′ v (w .small) e n (g .fits .lists) in record { keys = f .keys; values = f .values; held = record { blocks-fit = f .held .blocks-fit; ways-fit = f .held .ways-fit; references-fit = f .held .references-fit; tables-fit = f .held .tables-fit; possible-fit = f .held .possible-fit; blocks-rise = f .held .blocks-rise; ways-rise = f .held .ways-rise; references-rise = f .held .references-rise; tables-rise = f .held .tables-rise; possible-rise = f .held .possible-rise } }; few = t .1; placed = g .fits .placed })
+      (record { lists = refit k′ v (w .small) (pushing w p .small) refl refl refl refl refl (lists-fit k k′ v (w .small) e n (g .fits .lists)); few = t .1; placed = g .fits .placed })
   pushed-as (fault n) (number h) t e m = is-fault vis k′ v (pushing w p) t (not-zero h)
 
   pub pushed : IsPushed addr (w .pending) k k′ p → Is (rules.push addr (walk-of vis k v w)) vis k′ v (pushing w p)

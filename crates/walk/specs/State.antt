@@ -5,6 +5,7 @@ use mathlib.Core.Bool.{Bool}
 use Prim.Native.Nat.{ℕ, _≤_, _<_}
 use lib.Dec.{eqb}
 use Rattle.rules.specs.Choice.{if, Answer, ok, fault}
+use Rattle.rules.specs.Slices.{Slices}
 use Rattle.rules.specs.Step as rules
 use Rattle.lists.specs.View.{view, Fit}
 use Rattle.lists.specs.declared.Small.{Small}
@@ -22,6 +23,11 @@ place-of w = if (eqb (w .place) 0) rules.idle (if (eqb (w .place) 1) (rules.at (
 -- other counts
 abbrev pub with-small : Walk → Small → Walk
 with-small w s = record { small = s; pending = w .pending; fresh = w .fresh; place = w .place; at = w .at; block = w .block }
+
+-- the counts with a fault, 0 for none
+abbrev pub faulting : Small → ℕ → Small
+faulting s n =
+    record { blocks = s .blocks; ways = s .ways; references = s .references; tables = s .tables; possible = s .possible; prologue = s .prologue; epilogue = s .epilogue; conditional = s .conditional; rfi = s .rfi; load = s .load; finalized = s .finalized; fault = n }
 
 -- the state, where these words were visited
 unfoldable pub walk-of : (ℕ → Bool) → List ℕ → List ℕ → Walk → rules.Walk
@@ -46,3 +52,8 @@ answer vis k v w = if (eqb (w .small .fault) 0) (ok (walk-of vis k v w)) (fault 
 pub record Is (a : Answer rules.Walk) (vis : ℕ → Bool) (k v : List ℕ) (w : Walk) : Type 0 where
   pub is : a ≡ answer vis k v w
   pub fits : w .small .fault ≡ 0 → Fits k v w
+
+-- the lists are the answer
+pub record Listed (a : Answer Slices) (k v : List ℕ) (s : Small) : Type 0 where
+  pub is : a ≡ if (eqb (s .fault) 0) (ok (view k v s)) (fault (s .fault))
+  pub fit : s .fault ≡ 0 → Fit k v s
