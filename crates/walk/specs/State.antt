@@ -24,6 +24,10 @@ place-of w = if (eqb (w .place) 0) rules.idle (if (eqb (w .place) 1) (rules.at (
 abbrev pub with-small : Walk → Small → Walk
 with-small w s = record { small = s; pending = w .pending; fresh = w .fresh; place = w .place; at = w .at; block = w .block }
 
+-- another place
+abbrev pub with-place : Walk → ℕ → ℕ → ℕ → Walk
+with-place w p k b = record { small = w .small; pending = w .pending; fresh = w .fresh; place = p; at = k; block = b }
+
 -- the counts with a fault, 0 for none
 abbrev pub faulting : Small → ℕ → Small
 faulting s n =

@@ -7,7 +7,7 @@ ghost use lib.ListN.{length, take};
 ghost use Rattle.rules.specs.Choice.{ok};
 ghost use Rattle.rules.specs.Slices as lists;
 ghost use Rattle.rules.specs.Step as rules;
-ghost use Rattle.walk.specs.State.{walk-of, with-small, Going, Is, Low};
+ghost use Rattle.walk.specs.State.{walk-of, with-small, with-place, faulting, Going, Is, Low};
 
 // Where a walk is: between two blocks, before a word, or at its end since it met no function.
 pub const IDLE: u32 = 0;
@@ -34,6 +34,35 @@ pub fn with_small(w: Walk, s: lists::Small) -> Walk
     let mut r = w;
     r.small = s;
     r
+}
+
+// The walk goes on at a word of a block.
+pub fn go_to(w: Walk, addr: u64, block: u64) -> Walk
+    ensures { λ r. ⌜ r ≡ with-place w 1 addr block ⌝ }
+{
+    let mut r = w;
+    r.place = AT;
+    r.at = addr;
+    r.block = block;
+    r
+}
+
+// The walk met no function.
+pub fn met_nothing(w: Walk) -> Walk
+    ensures { λ r. ⌜ r ≡ with-place w 2 (w .at) (w .block) ⌝ }
+{
+    let mut r = w;
+    r.place = NOWHERE;
+    r
+}
+
+// The walk met a fault.
+pub fn with_fault(w: Walk, n: u32) -> Walk
+    ensures { λ r. ⌜ r ≡ with-small w (faulting (w .small) n) ⌝ }
+{
+    let mut s = w.small;
+    s.fault = n;
+    with_small(w, s)
 }
 
 // Sets the ways on from a word to the first m targets.

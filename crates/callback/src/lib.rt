@@ -1,0 +1,4 @@
+// One word of a walk (FunctionSlices::instruction_callback).
+pub mod around;
+
+pub mod jumps;
