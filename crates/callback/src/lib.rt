@@ -2,3 +2,7 @@
 pub mod around;
 
 pub mod jumps;
+
+pub mod tables;
+
+pub mod branches;
