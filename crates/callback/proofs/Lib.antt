@@ -2,3 +2,5 @@ pub mod Places
 pub mod JumpCases
 pub mod TableCases
 pub mod BranchCases
+pub mod Lends
+pub mod WordCases

@@ -9,7 +9,7 @@ use Rattle.rules.specs.Ordered.{empty}
 use Rattle.rules.specs.Slices.{set-ways, add-all-possible}
 use Rattle.rules.specs.JumpTable.{Entries}
 use Rattle.rules.specs.Address.{address-of}
-use Rattle.rules.specs.Image.{Image, code-number, code-section}
+use Rattle.rules.specs.Image.{Image, code-number, code-section, locate, Outcome, go-on, illegal, unknown, return, jump, jump-table, branches}
 use Rattle.rules.specs.Step as rules
 use Rattle.obj.specs.declared.sections.Code.{Code}
 use Rattle.walk.specs.State.{walk-of, Fits, Low}
@@ -60,3 +60,13 @@ Safe k v w = w .small .fault ≡ 0 → Fits k v w
 pub record Branches (a : Answer (rules.Walk × List ℕ)) (out : List ℕ) (vis : ℕ → Bool) (k v : List ℕ) (r : Branched) : Type 0 where
   pub is : a ≡ branched out vis k v r
   pub fits : Safe k v (r .walk)
+
+-- what is left of an outcome after its block has ended
+unfoldable pub after-block : rules.Around → ℕ → Outcome → rules.Walk → Answer rules.Walk
+after-block e k go-on w = ok w
+after-block e k illegal w = ok w
+after-block e k unknown w = rules.do-unknown e k w
+after-block e k return w = ok w
+after-block e k (jump a) w = rules.do-jump e k (locate (e .image) a) w
+after-block e k (jump-table a n) w = rules.do-table e k (locate (e .image) a) n w
+after-block e k (branches l) w = rules.do-branches e k l w

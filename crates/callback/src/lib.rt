@@ -6,3 +6,5 @@ pub mod jumps;
 pub mod tables;
 
 pub mod branches;
+
+pub mod words;
