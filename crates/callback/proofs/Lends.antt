@@ -35,7 +35,9 @@ use Rattle.obj.proofs.Alike.{alike-seen}
 use Rattle.analysis.specs.Tables as tables
 use Rattle.sequences.specs.Code.{CodeWords}
 use Rattle.known.specs.Table.{Kept, Knows}
-use Rattle.walk.specs.State.{Low}
+use Rattle.lists.specs.View.{view, Fit}
+use Rattle.lists.specs.declared.Small.{Small}
+use Rattle.walk.specs.State.{Low, Listed}
 use Rattle.callback.specs.Around.{IsCodeOf, Alike, Inside}
 use Rattle.callback.specs.Lends.{Of, Lends, At, Aims}
 use Rattle.callback.specs.declared.around.Around.{Around}
@@ -237,3 +239,27 @@ module _ (s : List ℕ) (few : Few s) (a t : ℕ) (small : a < 0x1_0000_0000) (i
   pub located-in : is-inside (seen s) a ≡ true → tables.AtTable s t
   unfolding locate section-at
   located-in h = rw here (located-at 1 (seen s .sections) a small (and-right (eqb (a % 4) 0) _ h) .1)
+
+-- ---- a word and what it does, of the image that is walked
+
+module _ (s b f x n : List ℕ) (a : Around) (e : steps.Around) (o : Of s b f x n a e) (addr : ℕ) where
+  pub word-of : (w : ℕ) → ((l : Lent) → l .bytes ≡ b → IsCode l (a .code) → check-image (lents.given l) ≡ true → w ≡ images.word (image l) (address-of addr)) → w ≡ images.word (e .image) (address-of addr)
+  word-of w g = g (o .lent) (o .bytes) (o .code) (image-passed s b f x n a e o) ∙ ap (λ (i : Image). images.word i (address-of addr)) (sym (o .is-image))
+
+  pub told-of : (p : List ℕ) (t : Told) → o .lent .outcomes ≡ p → ((l : Lent) → l .outcomes ≡ p → IsCode l (a .code) → told-for t ≡ images.told-at (image l) addr) → told-for t ≡ images.told-at (e .image) addr
+  told-of p t q g = g (o .lent) q (o .code) ∙ ap (λ (i : Image). images.told-at i addr) (sym (o .is-image))
+
+  pub aims-of : (t : Told) → told-for t ≡ images.told-at (e .image) addr → Aims s (t .outcome)
+  aims-of t h = aims s b f x n a e o addr t (h ∙ ap (λ (i : Image). images.told-at i addr) (o .is-image))
+
+  pub checked-word : (w : ℕ) (t : Told) (m r : Small) (k v : List ℕ) →
+      ((l : Lent) (k v : List ℕ) → l .bytes ≡ b → IsCode l (a .code) → check-image (lents.given l) ≡ true → t .mark ≡ images.told-at (image l) addr .mark → w ≡ images.word (image l) (address-of addr) → Fit k v m → Listed (steps.check-sequences (image l) addr (view k v m)) k v r) →
+      w ≡ images.word (e .image) (address-of addr) → told-for t ≡ images.told-at (e .image) addr → Fit k v m → Listed (steps.check-sequences (e .image) addr (view k v m)) k v r
+  checked-word w t m r k v g q h fit =
+      rw (o .is-image)
+      (g (o .lent) k v (o .bytes) (o .code) (image-passed s b f x n a e o)
+      (ap (λ (y : images.Told). y .mark) h ∙ ap (λ (i : Image). images.told-at i addr .mark) (o .is-image))
+      (q ∙ ap (λ (i : Image). images.word i (address-of addr)) (o .is-image)) fit)
+
+pub lends-of : (s b f x n : List ℕ) (a : Around) (e : steps.Around) → Of s b f x n a e → Lends s b f x n a
+lends-of s b f x n a e o = record { around = e; of = o }

@@ -26,11 +26,14 @@ use Rattle.lists.specs.View as lists
 use Rattle.lists.specs.View.{view, Fit}
 use Rattle.lists.specs.declared.Small.{Small}
 use Rattle.sequences.specs.Code.{CodeWords}
-use Rattle.walk.specs.State.{walk-of, with-small, with-place, Going, Is, Listed}
+use Rattle.walk.specs.State.{walk-of, place-of, with-small, with-place, Going, Is, Listed}
 use Rattle.walk.specs.declared.Walk.{Walk}
-use Rattle.walk.proofs.Answers.{is-ok, stopped, onward, going-on, refit, on-changed}
+use Rattle.walk.proofs.Answers.{is-fault, stopped, onward, refit}
+use borrow.Author.Tests.{eq-eqb, ne-eqb}
+use Rattle.executor.specs.Pending.{pending}
+use Rattle.executor.proofs.Pending.{pending-same}
 use Rattle.callback.specs.Around.{after-block}
-use Rattle.callback.specs.Lends.{Of}
+use Rattle.callback.specs.Lends.{Of, kind}
 use Rattle.callback.specs.declared.around.Around.{Around}
 use Rattle.callback.proofs.Places.{placed-same, placed-nowhere}
 
@@ -57,7 +60,7 @@ code-part l b c e code passed =
 
 -- ---- after the block
 
-module _ (e : rules.Around) (vis : ℕ → Bool) (k v k′ v′ : List ℕ) (w r : Walk) (addr : ℕ) (u : Outcome) where
+module _ (e : rules.Around) (vis : ℕ → Bool) (k v : List ℕ) (w : Walk) (addr : ℕ) (u : Outcome) where
   abbrev After : List ℕ → List ℕ → Walk → Type 0
   After x y z = Is (after-block e addr (outcome-for u) (walk-of vis k v w)) vis x y z
 
@@ -73,21 +76,22 @@ module _ (e : rules.Around) (vis : ℕ → Bool) (k v k′ v′ : List ℕ) (w r
   unfolding after-block
   after-return g h = rw h (placed-same vis k v w g)
 
-  pub after-unknown : u ≡ Unknown → Is (rules.do-unknown e addr (walk-of vis k v w)) vis k′ v′ r → After k′ v′ r
-  unfolding after-block
-  after-unknown h i = rw h i
+  module _ (k′ v′ : List ℕ) (r : Walk) where
+    pub after-unknown : u ≡ Unknown → Is (rules.do-unknown e addr (walk-of vis k v w)) vis k′ v′ r → After k′ v′ r
+    unfolding after-block
+    after-unknown h i = rw h i
 
-  pub after-jump : (l : Lent) (a t : ℕ) → e .image ≡ image l → u ≡ Jump a → t ≡ locate (image l) a → Is (rules.do-jump e addr t (walk-of vis k v w)) vis k′ v′ r → After k′ v′ r
-  unfolding after-block
-  after-jump l a t j h q i = let p : locate (e .image) a ≡ t = ap (λ (y : Image). locate y a) j ∙ sym q in rw (h, p) i
+    pub after-jump : (l : Lent) (a t : ℕ) → e .image ≡ image l → u ≡ Jump a → t ≡ locate (image l) a → Is (rules.do-jump e addr t (walk-of vis k v w)) vis k′ v′ r → After k′ v′ r
+    unfolding after-block
+    after-jump l a t j h q i = let p : locate (e .image) a ≡ t = ap (λ (y : Image). locate y a) j ∙ sym q in rw (h, p) i
 
-  pub after-table : (l : Lent) (a n t : ℕ) → e .image ≡ image l → u ≡ JumpTable a n → t ≡ locate (image l) a → Is (rules.do-table e addr t n (walk-of vis k v w)) vis k′ v′ r → After k′ v′ r
-  unfolding after-block
-  after-table l a n t j h q i = let p : locate (e .image) a ≡ t = ap (λ (y : Image). locate y a) j ∙ sym q in rw (h, p) i
+    pub after-table : (l : Lent) (a n t : ℕ) → e .image ≡ image l → u ≡ JumpTable a n → t ≡ locate (image l) a → Is (rules.do-table e addr t n (walk-of vis k v w)) vis k′ v′ r → After k′ v′ r
+    unfolding after-block
+    after-table l a n t j h q i = let p : locate (e .image) a ≡ t = ap (λ (y : Image). locate y a) j ∙ sym q in rw (h, p) i
 
-  pub after-branches : (x y : Branch) → u ≡ Branches x y → Is (rules.do-branches e addr (branch-list x ++ branch-list y) (walk-of vis k v w)) vis k′ v′ r → After k′ v′ r
-  unfolding after-block
-  after-branches x y h i = rw h i
+    pub after-branches : (x y : Branch) → u ≡ Branches x y → Is (rules.do-branches e addr (branch-list x ++ branch-list y) (walk-of vis k v w)) vis k′ v′ r → After k′ v′ r
+    unfolding after-block
+    after-branches x y h i = rw h i
 
 -- ---- the outcome
 
@@ -154,6 +158,64 @@ module _ (e : rules.Around) (vis : ℕ → Bool) (k v : List ℕ) (w : Walk) (ad
 
 -- ---- the whole
 
+-- the walk with lists anew, wherever they lie
+with-lists : (vis : ℕ → Bool) (k v k′ v′ : List ℕ) (w r : Walk) (t : Small) → r ≡ with-small w t → drop 1920 k′ ≡ drop 1920 k → {x : Slices} → view k′ v′ t ≡ x → rules.with-slices (walk-of vis k v w) x ≡ walk-of vis k′ v′ r
+unfolding walk-of place-of
+with-lists vis k v k′ v′ w r t e p h =
+    rw (e, ← h) (ap (λ (y : List ℕ). record { slices = view k′ v′ t; visited = vis; pending = y; fresh = w .fresh; place = place-of w }) (sym (pending-same k k′ (w .pending) p)))
+
 module _ (e : rules.Around) (vis : ℕ → Bool) (k v : List ℕ) (w : Walk) (addr block : ℕ) (s : Small) (checked : Listed (rules.check-sequences (e .image) addr (view k v (w .small))) k v s) where
   abbrev Called : List ℕ → List ℕ → Walk → Type 0
   Called x y z = Is (rules.instruction-callback e addr block (walk-of vis k v w)) vis x y z
+
+  called : (a : Answer Slices) → rules.check-sequences (e .image) addr (walk-of vis k v w .slices) ≡ a → rules.instruction-callback e addr block (walk-of vis k v w) ≡ (a >>= λ x. rules.do-word e addr block (rules.with-slices (walk-of vis k v w) (rules.note-word (e .image) addr x)))
+  unfolding rules.instruction-callback
+  called a h = ap (λ y. y >>= λ x. rules.do-word e addr block (rules.with-slices (walk-of vis k v w) (rules.note-word (e .image) addr x))) h
+
+  told : rules.check-sequences (e .image) addr (walk-of vis k v w .slices) ≡ if (eqb (s .fault) 0) (ok (view k v s)) (fault (s .fault))
+  unfolding walk-of
+  told = checked .is
+
+  pub called-fails : (r : Walk) → (s .fault ≡ 0 → ⊥) → r ≡ with-small w s → Called k v r
+  unfolding _>>=_
+  called-fails r n h = rw (called (fault (s .fault)) (told ∙ if-false (ne-eqb _ _ n) _ _)) (is-fault vis k v r (rw h refl) n)
+
+  pub called-on : (k′ v′ k″ v″ : List ℕ) (t : Small) (r q : Walk) → s .fault ≡ 0 → lists.Is (ok (rules.note-word (e .image) addr (view k v s))) k k′ v′ t → r ≡ with-small w t → Is (rules.do-word e addr block (walk-of vis k′ v′ r)) vis k″ v″ q → Called k″ v″ q
+  unfolding _>>=_
+  called-on k′ v′ k″ v″ t r q z i h j =
+      rw (called (ok (view k v s)) (told ∙ if-true (eq-eqb _ _ z) _ _), relisted (i .pending) h (i .told .same)) j
+    where
+      relisted : drop 1920 k′ ≡ drop 1920 k → r ≡ with-small w t → {x : Slices} → view k′ v′ t ≡ x → rules.with-slices (walk-of vis k v w) x ≡ walk-of vis k′ v′ r
+      relisted p y f = with-lists vis k v k′ v′ w r t y p f
+
+pub going-noted : (k v k′ v′ : List ℕ) (w r : Walk) (t : Small) → Going k v w → Fit k′ v′ t × (t .fault ≡ 0) → r ≡ with-small w t → Going k′ v′ r
+going-noted k v k′ v′ w r t g f h = rw h (record { fits = record { lists = f .0; few = g .fits .few; placed = g .fits .placed }; fine = f .1 })
+
+-- ---- kinds of outcomes
+
+pub kind-go-on : (u : Outcome) → kind u ≡ 0 → u ≡ GoOn
+kind-go-on GoOn h = refl
+kind-go-on Illegal h = absurd (omega (arith, h))
+kind-go-on Unknown h = absurd (omega (arith, h))
+kind-go-on Return h = absurd (omega (arith, h))
+kind-go-on (Jump a) h = absurd (omega (arith, h))
+kind-go-on (JumpTable a n) h = absurd (omega (arith, h))
+kind-go-on (Branches x y) h = absurd (omega (arith, h))
+
+pub kind-illegal : (u : Outcome) → kind u ≡ 1 → u ≡ Illegal
+kind-illegal GoOn h = absurd (omega (arith, h))
+kind-illegal Illegal h = refl
+kind-illegal Unknown h = absurd (omega (arith, h))
+kind-illegal Return h = absurd (omega (arith, h))
+kind-illegal (Jump a) h = absurd (omega (arith, h))
+kind-illegal (JumpTable a n) h = absurd (omega (arith, h))
+kind-illegal (Branches x y) h = absurd (omega (arith, h))
+
+pub kind-ends : (u : Outcome) → (kind u ≡ 0 → ⊥) → (kind u ≡ 1 → ⊥) → ends u ≡ true
+kind-ends GoOn h i = absurd (h refl)
+kind-ends Illegal h i = absurd (i refl)
+kind-ends Unknown h i = refl
+kind-ends Return h i = refl
+kind-ends (Jump a) h i = refl
+kind-ends (JumpTable a n) h i = refl
+kind-ends (Branches x y) h i = refl

@@ -10,13 +10,13 @@ ghost use Rattle.rules.specs.Image as images;
 ghost use Rattle.rules.specs.Step as rules;
 ghost use Rattle.obj.specs.Lent.{Lent, given, image};
 ghost use Rattle.obj.specs.Sections.{IsCode, InBytes};
-ghost use Rattle.obj.specs.Outcomes.{outcome-for};
+ghost use Rattle.obj.specs.Outcomes.{outcome-for, told-for};
 ghost use Rattle.lists.specs.View as lists;
 ghost use Rattle.lists.specs.View.{view, Fit};
 ghost use Rattle.executor.specs.Bits.{bit};
 ghost use Rattle.walk.specs.State.{walk-of, Going, Is, Listed};
 ghost use Rattle.callback.specs.Around.{Inside, after-block};
-ghost use Rattle.callback.specs.Lends.{Lends, LendsAll, Of, At, Aims};
+ghost use Rattle.callback.specs.Lends.{Lends, LendsAll, Meets, Of, At, Aims, kind};
 use crate::around::Around;
 use crate::around::is_known_function;
 use crate::branches::do_branches;
@@ -58,7 +58,7 @@ fn check_word(
 // Returns are noted, and the word is no longer a possible block.
 fn note_word(k: &mut [u64], v: &mut [u64], s: lists::Small, addr: u64, word: u32) -> lists::Small
     requires { ⌜ Fit (now k) (now v) s × (s .fault ≡ 0) ⌝ }
-    ensures { λ r. ⌜ ((im : images.Image) → word ≡ images.word im (address-of addr) → lists.Is (ok (rules.note-word im addr (view (now (k .entry)) (now (v .entry)) s))) (now (k .entry)) (now (k .exit)) (now (v .exit)) r) ⌝ }
+    ensures { λ r. ⌜ (Fit (now (k .exit)) (now (v .exit)) r × (r .fault ≡ 0)) × ((im : images.Image) → word ≡ images.word im (address-of addr) → lists.Is (ok (rules.note-word im addr (view (now (k .entry)) (now (v .entry)) s))) (now (k .entry)) (now (k .exit)) (now (v .exit)) r) ⌝ }
 {
     let mut t = s;
     t.conditional = s.conditional | ppc::words::is_conditional_blr(word);
@@ -102,7 +102,214 @@ fn after_block(
             do_table(sections, bytes, objects, known, k, v, a, w, addr, t, size)
         }
         obj::outcomes::Outcome::Branches(first, second) => do_branches(
-            sections, functions, known, k, v, a, w, addr, first, second,
+            sections,
+            functions,
+            known,
+            k,
+            v,
+            a,
+            w,
+            addr,
+            first,
+            second,
         ),
     }
+}
+
+// Whether an outcome goes on (0), is illegal (1) or ends its block (2).
+fn kind_of(outcome: obj::outcomes::Outcome) -> u32
+    ensures { λ r. ⌜ r ≡ kind outcome ⌝ }
+{
+    match outcome {
+        obj::outcomes::Outcome::GoOn => 0,
+        obj::outcomes::Outcome::Illegal => 1,
+        obj::outcomes::Outcome::Unknown => 2,
+        obj::outcomes::Outcome::Return => 2,
+        obj::outcomes::Outcome::Jump(_) => 2,
+        obj::outcomes::Outcome::JumpTable(_, _) => 2,
+        obj::outcomes::Outcome::Branches(_, _) => 2,
+    }
+}
+
+// What the word at addr does.
+fn do_outcome(
+    sections: &[u32],
+    bytes: &[u8],
+    functions: &[u32],
+    objects: &[u32],
+    known: &[u64],
+    visited: &[u32; 2048],
+    k: &mut [u64],
+    v: &mut [u64],
+    a: Around,
+    w: walk::Walk,
+    addr: u64,
+    block: u64,
+    word: u32,
+    outcome: obj::outcomes::Outcome,
+) -> walk::Walk
+    requires lends { ⌜ Lends (now sections) (now bytes) (now functions) (now objects) (now known) a ⌝ }
+    requires going { ⌜ Going (now k) (now v) w ⌝ }
+    requires inside { ⌜ Inside addr ⌝ }
+    requires aims { ⌜ Aims (now sections) outcome ⌝ }
+    ensures { λ r. ⌜ ((e : rules.Around) → Of (now (sections .entry)) (now (bytes .entry)) (now (functions .entry)) (now (objects .entry)) (now (known .entry)) a e → word ≡ images.word (e .image) (address-of addr) → Is (rules.do-outcome e addr block (outcome-for outcome) (walk-of (bit (now (visited .entry))) (now (k .entry)) (now (v .entry)) w)) (bit (now (visited .entry))) (now (k .exit)) (now (v .exit)) r) ⌝ }
+{
+    let kind = kind_of(outcome);
+    if kind == 0 {
+        return do_go_on(visited, k, v, a, w, addr, block);
+    }
+    if kind == 1 {
+        return do_illegal(w, addr, block, word);
+    }
+    let r = walk::end_block(k, v, w, addr, block);
+    if r.small.fault != 0 {
+        return r;
+    }
+    after_block(
+        sections,
+        bytes,
+        functions,
+        objects,
+        known,
+        visited,
+        k,
+        v,
+        a,
+        r,
+        addr,
+        word,
+        outcome,
+    )
+}
+
+// A word of another known function is no function's to walk.
+fn do_word(
+    sections: &[u32],
+    bytes: &[u8],
+    functions: &[u32],
+    objects: &[u32],
+    known: &[u64],
+    visited: &[u32; 2048],
+    k: &mut [u64],
+    v: &mut [u64],
+    a: Around,
+    w: walk::Walk,
+    addr: u64,
+    block: u64,
+    word: u32,
+    outcome: obj::outcomes::Outcome,
+) -> walk::Walk
+    requires lends { ⌜ Lends (now sections) (now bytes) (now functions) (now objects) (now known) a ⌝ }
+    requires going { ⌜ Going (now k) (now v) w ⌝ }
+    requires inside { ⌜ Inside addr ⌝ }
+    requires aims { ⌜ Aims (now sections) outcome ⌝ }
+    ensures { λ r. ⌜ ((e : rules.Around) → Of (now (sections .entry)) (now (bytes .entry)) (now (functions .entry)) (now (objects .entry)) (now (known .entry)) a e → word ≡ images.word (e .image) (address-of addr) → outcome-for outcome ≡ images.told-at (e .image) addr .outcome → Is (rules.do-word e addr block (walk-of (bit (now (visited .entry))) (now (k .entry)) (now (v .entry)) w)) (bit (now (visited .entry))) (now (k .exit)) (now (v .exit)) r) ⌝ }
+{
+    if is_known_function(known, a.known, k, v, w.small, a.start, addr) {
+        return walk::met_nothing(w);
+    }
+    do_outcome(
+        sections,
+        bytes,
+        functions,
+        objects,
+        known,
+        visited,
+        k,
+        v,
+        a,
+        w,
+        addr,
+        block,
+        word,
+        outcome,
+    )
+}
+
+// The word at addr, of which it is known what it is and does.
+fn meet_word(
+    sections: &[u32],
+    bytes: &[u8],
+    functions: &[u32],
+    objects: &[u32],
+    known: &[u64],
+    visited: &[u32; 2048],
+    k: &mut [u64],
+    v: &mut [u64],
+    a: Around,
+    w: walk::Walk,
+    addr: u64,
+    block: u64,
+    word: u32,
+    told: obj::outcomes::Told,
+) -> walk::Walk
+    requires meets { ⌜ Meets (now sections) (now bytes) (now functions) (now objects) (now known) a addr word told ⌝ }
+    requires going { ⌜ Going (now k) (now v) w ⌝ }
+    requires at { ⌜ At (a .code) addr ⌝ }
+    ensures { λ r. ⌜ ((e : rules.Around) → Of (now (sections .entry)) (now (bytes .entry)) (now (functions .entry)) (now (objects .entry)) (now (known .entry)) a e → word ≡ images.word (e .image) (address-of addr) → told-for told ≡ images.told-at (e .image) addr → Is (rules.instruction-callback e addr block (walk-of (bit (now (visited .entry))) (now (k .entry)) (now (v .entry)) w)) (bit (now (visited .entry))) (now (k .exit)) (now (v .exit)) r) ⌝ }
+{
+    let s = check_word(bytes, a.code, w.small, addr, word, told.mark);
+    if s.fault != 0 {
+        return walk::with_small(w, s);
+    }
+    let t = note_word(k, v, s, addr, word);
+    let r = walk::with_small(w, t);
+    let outcome = told.outcome;
+    do_word(
+        sections,
+        bytes,
+        functions,
+        objects,
+        known,
+        visited,
+        k,
+        v,
+        a,
+        r,
+        addr,
+        block,
+        word,
+        outcome,
+    )
+}
+
+// FunctionSlices::instruction_callback: the word at addr, in the block that starts at `block`.
+pub fn instruction_callback(
+    sections: &[u32],
+    bytes: &[u8],
+    outcomes: &[u32],
+    functions: &[u32],
+    objects: &[u32],
+    known: &[u64],
+    visited: &[u32; 2048],
+    k: &mut [u64],
+    v: &mut [u64],
+    a: Around,
+    w: walk::Walk,
+    addr: u64,
+    block: u64,
+) -> walk::Walk
+    requires lends { ⌜ LendsAll (now sections) (now bytes) (now outcomes) (now functions) (now objects) (now known) a ⌝ }
+    requires going { ⌜ Going (now k) (now v) w ⌝ }
+    requires at { ⌜ At (a .code) addr ⌝ }
+    ensures { λ r. ⌜ ((e : rules.Around) (o : Of (now (sections .entry)) (now (bytes .entry)) (now (functions .entry)) (now (objects .entry)) (now (known .entry)) a e) → o .lent .outcomes ≡ now (outcomes .entry) → Is (rules.instruction-callback e addr block (walk-of (bit (now (visited .entry))) (now (k .entry)) (now (v .entry)) w)) (bit (now (visited .entry))) (now (k .exit)) (now (v .exit)) r) ⌝ }
+{
+    let told = obj::outcomes::told_at(outcomes, a.code, addr);
+    let word = word_in(bytes, a.code, addr);
+    meet_word(
+        sections,
+        bytes,
+        functions,
+        objects,
+        known,
+        visited,
+        k,
+        v,
+        a,
+        w,
+        addr,
+        block,
+        word,
+        told,
+    )
 }

@@ -66,14 +66,7 @@ pub fn with_fault(w: Walk, n: u32) -> Walk
 }
 
 // Sets the ways on from a word to the first m targets.
-pub fn set_ways(
-    k: &mut [u64],
-    v: &mut [u64],
-    w: Walk,
-    from: u64,
-    targets: &[u64],
-    m: usize,
-) -> Walk
+pub fn set_ways(k: &mut [u64], v: &mut [u64], w: Walk, from: u64, targets: &[u64], m: usize) -> Walk
     requires going { ⌜ Going (now k) (now v) w ⌝ }
     requires some { ⌜ (0 < m) × (m ≤ length (now targets)) ⌝ }
     ensures { λ r. ⌜ ((vis : ℕ → Bool) → Is (rules.on-slices (lists.set-ways from (take m (now (targets .entry)))) (walk-of vis (now (k .entry)) (now (v .entry)) w)) vis (now (k .exit)) (now (v .exit)) r) ⌝ }

@@ -45,10 +45,10 @@ do-branches-requires : tie.Need-do-branches-requires
 do-branches-requires c κs = (few _ _ _ _ _ _ _ (c .before .before .before .before .before .before .before .before .before .before .before .before .pre .0 .of), (functions-whole _ _ _ _ _ _ _ (c .before .before .before .before .before .before .before .before .before .before .before .before .pre .0 .of), (c .before .before .before .before .before .before .before .before .before .before .before .before .pre .0 .of .kept, c .before .before .before .before .before .before .before .before .before .before .before .before .pre .1 .0)))
 
 returns : tie.Need-returns
-returns c = λ e o q. after-go-on e _ _ _ _ _ _ _ _ _ (c .before .before .before .before .before .before .before .before .before .pre .1 .0) (c .enum-told .given .1)
+returns c = λ e o q. after-go-on e _ _ _ _ _ _ (c .before .before .before .before .before .before .before .before .before .pre .1 .0) (c .enum-told .given .1)
 
 returns-2 : tie.Need-returns-2
-returns-2 c = λ e o q. after-illegal e _ _ _ _ _ _ _ _ _ (c .before .before .before .before .before .before .before .before .before .pre .1 .0) (c .enum-told2 .given .1)
+returns-2 c = λ e o q. after-illegal e _ _ _ _ _ _ (c .before .before .before .before .before .before .before .before .before .pre .1 .0) (c .enum-told2 .given .1)
 
 same-length : tie.Need-same-length
 same-length c = search needs
@@ -60,7 +60,7 @@ returns-3 : tie.Need-returns-3
 returns-3 c = λ e o q. after-unknown e _ _ _ _ _ _ _ _ _ (c .before .before .before .before .before .before .before .enum-told3 .given .1) (c .before .before .before .before .do-unknown .ensures e _)
 
 returns-4 : tie.Need-returns-4
-returns-4 c = λ e o q. after-return e _ _ _ _ _ _ _ _ _ (c .before .before .before .before .before .before .before .before .before .pre .1 .0) (c .enum-told4 .given .1)
+returns-4 c = λ e o q. after-return e _ _ _ _ _ _ (c .before .before .before .before .before .before .before .before .before .pre .1 .0) (c .enum-told4 .given .1)
 
 same-length-3 : tie.Need-same-length-3
 same-length-3 c = search needs

@@ -19,7 +19,7 @@ same-length-2 : tie.Need-same-length-2
 same-length-2 c = search needs
 
 returns : tie.Need-returns
-returns c = λ im q. noted _ _ _ im _ _ _ _ _ _ _ (c .before .before .before .before .before .before .before .before .before .before .is-conditional-blr .ensures) (c .before .before .before .before .before .before .before .before .is-rfi .ensures) q (c .before .before .before .before .discard-possible .ensures)
+returns c = ((c .before .before .before .before .discard-possible .ensures .told .fit, c .before .before .before .before .discard-possible .ensures .told .fine), λ im q. noted _ _ _ im _ _ _ _ _ _ _ (c .before .before .before .before .before .before .before .before .before .before .is-conditional-blr .ensures) (c .before .before .before .before .before .before .before .before .is-rfi .ensures) q (c .before .before .before .before .discard-possible .ensures))
 
 pub note-word-spec : {M : Type 1} → statement M
 note-word-spec =
