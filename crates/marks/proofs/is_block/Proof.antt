@@ -1,9 +1,9 @@
-use Rattle.blocks.proofs.Checks.{aligned-block, unaligned-block, aligned-fits}
+use Rattle.marks.proofs.Checks.{aligned-block, unaligned-block, aligned-fits}
 use Prim.Native.Nat.{_+_, _<_}
 use mathlib.Core.Bool.{false≢true}
 use borrow.Author.Needs.{needs}
-use Rattle.blocks.proofs.is_block.Statement.{statement}
-use Rattle.blocks.proofs.is_block.Tie as tie
+use Rattle.marks.proofs.is_block.Statement.{statement}
+use Rattle.marks.proofs.is_block.Tie as tie
 use Rattle.std.proofs.num.wrapping_sub_u64.Reads as wrapping-sub-u64-reads
 
 wrapping-sub-u64-requires : tie.Need-wrapping-sub-u64-requires

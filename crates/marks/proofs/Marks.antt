@@ -12,13 +12,13 @@ use Rattle.rules.specs.Blocks.{Block, block, startOf, mark, is-new, is-aligned,
 use Rattle.rules.proofs.Blocks.{and-left, and-right, table-rising}
 use Rattle.rules.proofs.Sizes.{mark-grows}
 use Rattle.ordered.proofs.Columns.{rows-keys, rows-values}
 use Rattle.blocks.specs.Table.{rows, Table, Room, Holds, IsAdded}
-use Rattle.blocks.specs.Marks.{endOf, lent, markable, mark-lent, number-by, new-by, IsAnswered, IsMarking}
-use Rattle.blocks.specs.declared.Marking.{Marking}
+use Rattle.marks.specs.Marks.{endOf, lent, markable, mark-lent, number-by, new-by, IsAnswered, IsMarking}
+use Rattle.marks.specs.declared.Marking.{Marking}
 use Rattle.blocks.specs.declared.Step.{Step}
 use Rattle.blocks.specs.declared.Added.the-variants.{Yes, No, Full}
 use Rattle.blocks.proofs.Rows.{length-rows}
 use Rattle.blocks.proofs.Adds.{held}
 
 -- the tests, one by one
 module _ (n a : ℕ) (ss es : List ℕ) where

@@ -1,7 +1,7 @@
-use Rattle.blocks.proofs.Marks.{passes-starts, passes-ends, not-aligned, by-table}
+use Rattle.marks.proofs.Marks.{passes-starts, passes-ends, not-aligned, by-table}
 use borrow.Author.Needs.{needs}
-use Rattle.blocks.proofs.is_markable.Statement.{statement}
-use Rattle.blocks.proofs.is_markable.Tie as tie
+use Rattle.marks.proofs.is_markable.Statement.{statement}
+use Rattle.marks.proofs.is_markable.Tie as tie
 
 is-table-requires : tie.Need-is-table-requires
 is-table-requires c κs = search needs

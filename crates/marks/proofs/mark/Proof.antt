@@ -1,7 +1,7 @@
-use Rattle.blocks.proofs.Marks.{not-markable, too-many, table-is, room-is, answer-is}
+use Rattle.marks.proofs.Marks.{not-markable, too-many, table-is, room-is, answer-is}
 use borrow.Author.Needs.{needs}
-use Rattle.blocks.proofs.mark.Statement.{statement}
-use Rattle.blocks.proofs.mark.Tie as tie
+use Rattle.marks.proofs.mark.Statement.{statement}
+use Rattle.marks.proofs.mark.Tie as tie
 
 is-markable-requires : tie.Need-is-markable-requires
 is-markable-requires c κs = search needs

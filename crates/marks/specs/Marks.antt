@@ -1,17 +1,17 @@
 -- One mark in a lent table of any lengths: the number, the count, the answer, and every element of both slices.
 use mathlib.Core.Path.{_≡_}
-use mathlib.Core.List.{List, _++_, map}
+use mathlib.Core.List.{List, [], _∷_, _++_, map}
 use mathlib.Core.Bool.{Bool, true, false, _&&_}
 use Prim.Native.Nat.{ℕ, min}
 use lib.Dec.{leb}
 use lib.ListN.{length, drop}
 use Rattle.rules.specs.Choice.{if, Answer, ok, fault}
 use Rattle.rules.specs.Blocks.{Block, Marked, mark-in, startOf, is-aligned, is-table}
 use Rattle.blocks.specs.Table.{rows}
-use Rattle.blocks.specs.declared.Marking.{Marking}
+use Rattle.marks.specs.declared.Marking.{Marking}
 use Rattle.blocks.specs.declared.Step.{Step}
 use Rattle.blocks.specs.declared.Added.{Added}
 use Rattle.blocks.specs.declared.Added.the-variants.{Yes, No, Full}
 
 abbrev pub endOf : Block → ℕ
 endOf b = b .end
@@ -19,6 +19,15 @@ endOf b = b .end
 -- how many blocks both slices can hold
 abbrev pub lent : List ℕ → List ℕ → ℕ
 lent ss es = min (length ss) (length es)
+
+-- the first start, if there is one, is b or more
+abbrev pub starts-from : ℕ → List Block → Bool
+starts-from b [] = true
+starts-from b (r ∷ l) = leb b (r .start)
+
+-- rows that may stand in a table where b is what the next start must reach
+abbrev pub goes-on : ℕ → List Block → Bool
+goes-on b l = starts-from b l && is-table l
 
 -- the count fits both slices, and the address and the table break no rule
 abbrev pub markable : ℕ → ℕ → List ℕ → List ℕ → Bool
