@@ -17,12 +17,12 @@ use Rattle.rules.specs.Given as givens
 use Rattle.rules.specs.Step.{Around, lower-symbol, symbol-over}
 use Rattle.rules.proofs.Ordered.{rank-keys}
 use Rattle.ordered.proofs.Arrays.{Halved, halved-up, halved-down, halved-end}
-use Rattle.obj.specs.Lent.{Lent, rows, symbol-row, given, image}
+use Rattle.obj_image.specs.Lent.{Lent, rows, symbol-row, given, image}
 use Rattle.obj.specs.Sections.{IsCode}
 use Rattle.obj.specs.Symbols.{symbol-of, addresses}
 use Rattle.obj.specs.declared.sections.Code.{Code}
 use Rattle.obj.specs.declared.symbols.Symbol.{Symbol}
-use Rattle.obj.proofs.Rows.{rows-count, rows-drop, getD-mapped}
+use Rattle.obj_image.proofs.Rows.{rows-count, rows-drop, getD-mapped}
 use Rattle.obj.proofs.SymbolRows.{symbol-here}
 
 abbrev pub addressOf : SymbolRow → ℕ

@@ -1,8 +1,8 @@
-pub mod Rows
-pub mod Loops
-pub mod SectionRows
+pub use Rattle.obj_image.proofs.Rows
+pub use Rattle.obj_image.proofs.Loops
+pub use Rattle.obj_image.proofs.SectionRows
+pub use Rattle.obj_image.proofs.CheckImage
 pub mod CodeSection
-pub mod CheckImage
 pub mod OutcomeRows
 pub mod SkipRows
 pub mod SymbolRows

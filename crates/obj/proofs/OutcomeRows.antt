@@ -11,10 +11,10 @@ use Rattle.rules.specs.Choice.{if, by-if}
 use Rattle.rules.specs.Image.{Image}
 use Rattle.rules.specs.Given.{BranchRow, OutcomeRow}
 use Rattle.rules.specs.Check as rules
-use Rattle.obj.specs.Lent.{rows, outcome-row, branch-row, to-number}
+use Rattle.obj_image.specs.Lent.{rows, outcome-row, branch-row, to-number}
 use Rattle.obj.specs.Outcomes.{row-of}
 use Rattle.obj.specs.declared.outcomes.Row.{Row}
-use Rattle.obj.proofs.Rows.{row-here, middle-false}
+use Rattle.obj_image.proofs.Rows.{row-here, middle-false}
 
 -- an outcome's row, by its numbers
 pub outcome-here : (l : List ℕ) (at : ℕ) → at + 6 ≤ length l → rows 6 outcome-row (drop at l) ≡ row-of (record { kind = getD l at 0; mark = getD l (at + 1) 0; first = getD l (at + 2) 0; second = getD l (at + 3) 0; third = getD l (at + 4) 0; fourth = getD l (at + 5) 0 }) ∷ rows 6 outcome-row (drop (at + 6) l)

@@ -11,7 +11,7 @@ use Rattle.rules.specs.Address.{key}
 use Rattle.rules.specs.Image as images
 use Rattle.rules.specs.Image.{contains, code-section, locate, locate-from}
 use Rattle.rules.specs.Check as rules
-use Rattle.obj.specs.Lent.{Lent, lent, image, seen}
+use Rattle.obj_image.specs.Lent.{Lent, lent, image, seen}
 use Rattle.obj.specs.Sections.{IsCode}
 use Rattle.obj.specs.Skips.{range-of}
 use Rattle.obj.specs.Symbols.{symbol-of}

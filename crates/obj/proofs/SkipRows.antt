@@ -14,10 +14,10 @@ use Rattle.rules.specs.Given.{image-of}
 use Rattle.rules.specs.Check as rules
 use Rattle.rules.specs.Map.{Capacity, past-range, skip-range}
 use Rattle.rules.proofs.Tests.{and-right}
-use Rattle.obj.specs.Lent.{Lent, rows, skip-row, given, image, seen}
+use Rattle.obj_image.specs.Lent.{Lent, rows, skip-row, given, image, seen}
 use Rattle.obj.specs.Skips.{range-of, IsSkipped}
 use Rattle.obj.specs.declared.skips.Range.{Range}
-use Rattle.obj.proofs.Rows.{row-here, row-end, rows-count, not-whole, middle-false}
+use Rattle.obj_image.proofs.Rows.{row-here, row-end, rows-count, not-whole, middle-false}
 
 -- a range's row, by its numbers
 pub range-here : (l : List ℕ) (at : ℕ) → at + 2 ≤ length l → rows 2 skip-row (drop at l) ≡ range-of (record { first = getD l at 0; past = getD l (at + 1) 0 }) ∷ rows 2 skip-row (drop (at + 2) l)

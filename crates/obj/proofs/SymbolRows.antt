@@ -13,10 +13,11 @@ use Rattle.rules.specs.Given.{SymbolRow, image-of}
 use Rattle.rules.specs.Given as givens
 use Rattle.rules.specs.Check as rules
 use Rattle.rules.specs.JumpTable.{known-size}
-use Rattle.obj.specs.Lent.{Lent, rows, symbol-row, given, image}
+use Rattle.obj_image.specs.Lent.{Lent, rows, symbol-row, given, image}
 use Rattle.obj.specs.Symbols.{symbol-of, symbol-holds}
 use Rattle.obj.specs.declared.symbols.Symbol.{Symbol}
-use Rattle.obj.proofs.Rows.{row-here, row-end, rows-count, not-whole, middle-false}
+use Rattle.obj_image.proofs.Halves.{half-function, half-object}
+use Rattle.obj_image.proofs.Rows.{row-here, row-end, rows-count, not-whole, middle-false}
 
 -- a symbol's row, by its numbers
 pub symbol-here : (l : List ℕ) (at : ℕ) → at + 3 ≤ length l → rows 3 symbol-row (drop at l) ≡ symbol-of (record { address = getD l at 0; size = getD l (at + 1) 0; known = getD l (at + 2) 0 }) ∷ rows 3 symbol-row (drop (at + 3) l)
@@ -51,14 +52,10 @@ module _ (im : images.Image) (x : SymbolRow) (f b : Bool) where
   pub holds-object : f ≡ false → b ≡ rules.is-object-symbol im x → b ≡ symbol-holds im f x
   holds-object h e = e ∙ sym (if-false h _ _)
 
--- a symbol that is not whole is not aligned
 pub not-a-symbol : (im : images.Image) (f : Bool) (c : List ℕ) → length c < 3 → symbol-holds im f (symbol-row c) ≡ false
 unfolding if
-not-a-symbol im f c h = rw (ne-eqb (length c) 3 (omega arith)) (both f)
-  where
-    both : (f : Bool) → if f false false ≡ false
-    both true = refl
-    both false = refl
+not-a-symbol im true c h = half-function im c h
+not-a-symbol im false c h = half-object im c h
 
 module _ (im : images.Image) (f : Bool) (s : List ℕ) where
   pub symbols-are : (b d : Bool) → length s % 3 ≡ 0 → b ≡ rules.all (symbol-holds im f) (rows 3 symbol-row s) → d ≡ rules.chained (rules.is-below im) (rows 3 symbol-row s) → (leb (length s / 3) 1024 && b && d) ≡ rules.are-symbols im (symbol-holds im f) (rows 3 symbol-row s)

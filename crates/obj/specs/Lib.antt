@@ -1,4 +1,4 @@
-pub mod Lent
+pub use Rattle.obj_image.specs.Lent
 pub mod Sections
 pub mod Outcomes
 pub mod Skips

@@ -6,7 +6,7 @@ use lib.ListN.{length}
 use Rattle.rules.specs.Address.{address-of}
 use Rattle.rules.specs.Image as images
 use Rattle.rules.specs.Given.{OutcomeRow}
-use Rattle.obj.specs.Lent.{outcome-row}
+use Rattle.obj_image.specs.Lent.{outcome-row}
 use Rattle.obj.specs.declared.sections.Code.{Code}
 use Rattle.obj.specs.declared.outcomes.Row.{Row}
 use Rattle.obj.specs.declared.outcomes.Branch.{Branch}

@@ -4,7 +4,7 @@ use mathlib.Core.Path.{_≡_}
 use mathlib.Core.List.{List}
 use Rattle.rules.specs.Image as images
 use Rattle.rules.specs.Map.{Capacity, skip-range}
-use Rattle.obj.specs.Lent.{Lent, image}
+use Rattle.obj_image.specs.Lent.{Lent, image}
 use Rattle.obj.specs.declared.skips.Range.{Range}
 
 abbrev pub range-of : Range → images.Range

@@ -6,7 +6,7 @@ use Rattle.rules.specs.Choice.{if}
 use Rattle.rules.specs.Image.{Image}
 use Rattle.rules.specs.Given.{SymbolRow}
 use Rattle.rules.specs.Check.{is-function-symbol, is-object-symbol}
-use Rattle.obj.specs.Lent.{rows, symbol-row}
+use Rattle.obj_image.specs.Lent.{rows, symbol-row}
 use Rattle.obj.specs.declared.symbols.Symbol.{Symbol}
 
 abbrev pub symbol-of : Symbol → SymbolRow

@@ -6,7 +6,7 @@ ghost use Prim.Native.Nat.{_+_, _*_, _/_, _%_, _≤_};
 ghost use lib.ListN.{length, drop};
 ghost use Rattle.rules.specs.Check as rules;
 ghost use Rattle.rules.specs.Image as images;
-ghost use Rattle.obj.specs.Lent.{Lent, lent, rows, outcome-row, branch-row, given, image, seen};
+ghost use Rattle.obj_image.specs.Lent.{Lent, lent, rows, outcome-row, branch-row, given, image, seen};
 ghost use Rattle.obj.specs.Sections.{Few, IsCode};
 ghost use Rattle.rules.specs.Given.{branch-of, outcome-of};
 ghost use Rattle.obj.specs.Outcomes.{row-of, branch-list, outcome-for, told-for, InCode};

@@ -5,7 +5,7 @@ ghost use Prim.Native.Nat.{_+_, _%_, _≤_};
 ghost use lib.ListN.{length, drop};
 ghost use Rattle.rules.specs.Check as rules;
 ghost use Rattle.rules.specs.Image as images;
-ghost use Rattle.obj.specs.Lent.{Lent, rows, skip-row, image, seen};
+ghost use Rattle.obj_image.specs.Lent.{Lent, rows, skip-row, image, seen};
 ghost use Rattle.obj.specs.Sections.{Few};
 ghost use Rattle.obj.specs.Skips.{range-of, IsSkipped};
 use crate::sections::code_section;

@@ -9,7 +9,7 @@ ghost use Rattle.rules.specs.Check as rules;
 ghost use Rattle.rules.specs.Image as images;
 ghost use Rattle.rules.specs.Step.{Around, symbol-over};
 ghost use Rattle.rules.specs.JumpTable.{known-size};
-ghost use Rattle.obj.specs.Lent.{Lent, rows, symbol-row, image, seen};
+ghost use Rattle.obj_image.specs.Lent.{Lent, rows, symbol-row, image, seen};
 ghost use Rattle.obj.specs.Sections.{Few, IsCode};
 ghost use Rattle.obj.specs.Symbols.{symbol-of, symbol-holds, addresses};
 use crate::sections::Code;

@@ -3,7 +3,7 @@ use Prim.Native.Nat.{_-_, _%_, _≤_}
 use mathlib.Core.Path.{_≡_, refl}
 use native.Mathlib.Omega.{arith}
 use lib.ListN.{length, drop}
-use Rattle.obj.specs.Lent.{rows, skip-row}
+use Rattle.obj_image.specs.Lent.{rows, skip-row}
 use Rattle.obj.proofs.SkipRows.{past-in, skipped, range-holds, range-later, range-none}
 use borrow.Author.Needs.{needs}
 use Rattle.obj.proofs.skips.skip_range.Statement.{statement}

@@ -3,8 +3,8 @@ use Prim.Native.Nat.{_+_, _-_, _%_}
 use mathlib.Core.Path.{_≡_, refl}
 use native.Mathlib.Omega.{arith}
 use lib.ListN.{length, drop}
-use Rattle.obj.specs.Lent.{rows, skip-row, seen}
-use Rattle.obj.proofs.Loops.{chained-on, chained-fails, chained-ends}
+use Rattle.obj_image.specs.Lent.{rows, skip-row, seen}
+use Rattle.obj_image.proofs.Loops.{chained-on, chained-fails, chained-ends}
 use mathlib.Core.List.{[]}
 use Rattle.rules.specs.Check.{chained, comes-before}
 use borrow.Author.Needs.{needs}

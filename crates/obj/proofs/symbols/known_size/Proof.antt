@@ -3,7 +3,7 @@ use Prim.Native.Nat.{_-_, _%_, _≤_}
 use mathlib.Core.Path.{_≡_, refl}
 use native.Mathlib.Omega.{arith}
 use lib.ListN.{length, drop}
-use Rattle.obj.specs.Lent.{rows, symbol-row}
+use Rattle.obj_image.specs.Lent.{rows, symbol-row}
 use Rattle.obj.proofs.SymbolRows.{size-in, sized, size-here, size-later, size-none}
 use borrow.Author.Needs.{needs}
 use Rattle.obj.proofs.symbols.known_size.Statement.{statement}
