@@ -13,7 +13,7 @@ use Rattle.rules.specs.Given.{Given, OutcomeRow, image-of}
 use Rattle.rules.specs.Check as rules
 use Rattle.obj_image.specs.Lent.{lent, rows, outcome-row, symbol-row, skip-row, given, seen}
 use Rattle.obj.specs.Sections.{Few}
-use Rattle.obj.specs.Symbols.{symbol-holds}
+use Rattle.obj_rows.specs.Symbols.{symbol-holds}
 use Rattle.obj.specs.declared.sections.Code.{Code}
 use Rattle.obj_image.proofs.Rows.{rows-count, not-whole}
 use Rattle.obj_image.proofs.CheckImage.{For, few-of}
