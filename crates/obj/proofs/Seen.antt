@@ -20,6 +20,9 @@ pub use Rattle.obj_rows.proofs.Seen.{any-located, Located, inside-is, below-is}
 abbrev pub Code-is : List ℕ → Code → Type 0
 Code-is s c = (l : Lent) → l .sections ≡ s → IsCode l c
 
+pub function-is : (s : List ℕ) (x : Symbol) (b d : Bool) → b ≡ rules.is-symbol (seen []) (symbol-of x) → d ≡ contains (code-section (seen s)) (x .address) → (b && d && eqb (x .size % 4) 0) ≡ rules.is-function-symbol (seen s) (symbol-of x)
+function-is s x b d eb ed = rw (eb, ed)
+
 module _ (s : List ℕ) (c : Code) (is : Code-is s c) where
   pub code-address : (a v b z : ℕ) → v ≡ a → b ≡ c .base → z ≡ c .size → (leb (c .base) a && ltb v (b + z)) ≡ contains (code-section (seen s)) a
   unfolding only

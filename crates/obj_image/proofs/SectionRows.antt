@@ -1,11 +1,11 @@
 -- The sections: what each test and each loop over them has found at its returns. Assumes nothing.
 use Prim.Native.Nat.{ℕ, suc, _+_, _*_, _/_, _%_, _≤_}
 use mathlib.Core.Path.{_≡_, refl, sym, ap, _∙_}
-use mathlib.Core.Bool.{Bool, true, false, _&&_}
+use mathlib.Core.Bool.{Bool, true, false, _&&_, _||_}
 use mathlib.Core.List.{List, [], _∷_}
 use native.Mathlib.Omega.{arith}
 use native.Mathlib.Numerals.{add-one}
-use lib.Dec.{leb, eqb}
+use lib.Dec.{leb, ltb, eqb}
 use lib.ListN.{length, drop, getD}
 use borrow.Author.Tests.{eq-eqb, ne-eqb}
 use Rattle.rules.specs.Choice.{if, by-if, if-true, if-false}
@@ -14,7 +14,7 @@ use Rattle.rules.specs.Image as images
 use Rattle.rules.specs.Given.{SectionRow, sections-of, section-of-row, image-of}
 use Rattle.rules.specs.Check as rules
 use Rattle.obj_image.specs.Lent.{Lent, rows, section-row, given, image}
-use Rattle.obj_image.specs.Sections.{row-of}
+use Rattle.obj_image.specs.Sections.{row-of, part-of, section-holds}
 use Rattle.obj_image.specs.declared.sections.Section.{Section}
 use Rattle.obj_image.proofs.Rows.{row-here, row-end, rows-count}
 
@@ -73,6 +73,21 @@ module _ (x : SectionRow) (rest tail whole : List SectionRow) (same : rules.none
 
 pub apart-ends : (l : List ℕ) (at : ℕ) (whole : List SectionRow) → rules.none-overlap (rows 4 section-row (drop at l)) ≡ rules.none-overlap whole → length l ≤ at → true ≡ rules.none-overlap whole
 apart-ends l at whole same h = sym (ap rules.none-overlap (row-end 4 (omega arith) section-row l at h)) ∙ same
+
+-- ---- the tests of a section, from what its parts answered: p is the first address past s, q the one past t
+
+module _ (s : Section) where
+  pub placed-is : (p : ℕ) → p ≡ s .base + s .size → (eqb (s .base % 4) 0 && eqb (s .size % 4) 0 && leb 256 (s .base) && leb 4 (s .size) && leb p 0xF000_0000) ≡ rules.is-placed (row-of s)
+  placed-is p e = rw e
+
+  pub section-is : (a b c d : Bool) → a ≡ rules.is-kind (row-of s) → b ≡ rules.is-placed (row-of s) → c ≡ rules.code-fits (row-of s) → d ≡ rules.has-bytes (row-of s) → (a && b && c && d) ≡ section-holds (row-of s)
+  section-is a b c d ea eb ec ed = rw (ea, eb, ec, ed)
+
+  pub contains-is : (a v p : ℕ) → v ≡ a → p ≡ s .base + s .size → (leb (s .base) a && ltb v p) ≡ images.contains (part-of s) a
+  contains-is a v p ev ep = rw (ev, ep)
+
+  pub apart-is : (t : Section) (p q u v : ℕ) → p ≡ s .base + s .size → u ≡ t .base → q ≡ t .base + t .size → v ≡ s .base → (leb p u || leb q v) ≡ rules.are-apart (row-of s) (row-of t)
+  apart-is t p q u v ep eu eq ev = rw (ep, eu, eq, ev)
 
 -- ---- where an address lies
 
