@@ -2,4 +2,3 @@ pub mod Rows
 pub mod Puts
 pub mod Adds
 pub mod Checks
-pub mod Marks

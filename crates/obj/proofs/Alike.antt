@@ -8,11 +8,11 @@ use Rattle.rules.specs.Choice.{if}
 use Rattle.rules.specs.Image.{Image, Range, contains, locate, code-number, code-section, code-words}
 use Rattle.rules.specs.Given.{OutcomeRow, BranchRow, SymbolRow, Given}
 use Rattle.rules.specs.Check as rules
-use Rattle.obj.specs.Lent.{Lent, lent, rows, section-row, image, seen}
+use Rattle.obj_image.specs.Lent.{Lent, lent, rows, section-row, image, seen}
 use Rattle.obj.specs.Sections.{IsCode}
 use Rattle.obj.specs.declared.sections.Code.{Code}
-use Rattle.obj.proofs.SectionRows.{locate-in, located, code-in}
-use Rattle.obj.proofs.CodeSection.{code-is}
+use Rattle.obj_image.proofs.SectionRows.{locate-in, located}
+use Rattle.obj.proofs.CodeSection.{code-in, code-is}
 use Rattle.obj.proofs.Seen.{any-located}
 
 -- what the checks ask of an image

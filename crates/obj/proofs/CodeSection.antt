@@ -4,10 +4,11 @@ use mathlib.Core.Path.{_≡_, refl, sym, ap, _∙_}
 use mathlib.Core.Bool.{Bool, true, false, _&&_, and-false}
 use mathlib.Core.List.{List, [], _∷_}
 use native.Mathlib.Omega.{arith}
+use native.Mathlib.Numerals.{add-one}
 use lib.Dec.{leb, eqb}
 use lib.ListN.{length, take, drop, getD}
 use lib.Seq.{drop-drop, drop-nil}
-use borrow.Author.Tests.{eqb-true, ne-eqb, le-ltb}
+use borrow.Author.Tests.{eqb-true, ne-eqb, le-ltb, eq-eqb}
 use Rattle.rules.specs.Choice.{if, by-if, if-true, if-false}
 use Rattle.rules.specs.Bytes.{words-in}
 use Rattle.rules.specs.Address.{address-of}
@@ -18,12 +19,26 @@ use Rattle.rules.specs.Given.{SectionRow, sections-of, section-of-row, kind-of,
 use Rattle.rules.specs.Check as rules
 use Rattle.rules.proofs.Tests.{and-left, and-right}
 use Rattle.rules.proofs.Passes.{code-from-low}
-use Rattle.obj.specs.Lent.{Lent, rows, section-row, given, image}
+use Rattle.obj_image.specs.Lent.{Lent, rows, section-row, given, image}
 use Rattle.obj.specs.Sections.{row-of, part-of, Few, IsCode}
-use Rattle.obj.specs.declared.sections.Section.{Section}
+use Rattle.obj_image.specs.declared.sections.Section.{Section}
 use Rattle.obj.specs.declared.sections.Code.{Code}
-use Rattle.obj.proofs.Rows.{rows-drop, rows-count}
-use Rattle.obj.proofs.SectionRows.{code-in}
+use Rattle.obj_image.proofs.Rows.{row-end, rows-drop, rows-count}
+
+-- the first of code, from the section i on, whose bytes begin at an offset
+abbrev pub code-in : ℕ → ℕ → List SectionRow → Code
+code-in i at [] = record { number = i; base = 0; size = 0; offset = at }
+code-in i at (r ∷ rs) = if (rules.is-code-row r) (record { number = i; base = r .base; size = r .size; offset = at }) (code-in (suc i) (at + r .given) rs)
+
+module _ (x : Section) (rest tail : List SectionRow) (n at : ℕ) (whole : Code) (same : code-in n at rest ≡ whole) (next : rest ≡ row-of x ∷ tail) where
+  pub code-here : x .kind ≡ 1 → record { number = n; base = x .base; size = x .size; offset = at } ≡ whole
+  code-here h = sym (if-true (eq-eqb _ 1 h) _ _) ∙ ap (code-in n at) (sym next) ∙ same
+
+  pub code-later : (v : ℕ) → v ≡ x .given → (x .kind ≡ 1 → ⊥) → code-in (n + 1) (at + v) tail ≡ whole
+  code-later v e h = rw (add-one n, e) (sym (if-false (ne-eqb _ 1 h) _ _) ∙ ap (code-in n at) (sym next) ∙ same)
+
+pub code-nowhere : (l : List ℕ) (at n o : ℕ) (whole : Code) → code-in n o (rows 4 section-row (drop at l)) ≡ whole → length l ≤ at → record { number = n; base = 0; size = 0; offset = o } ≡ whole
+code-nowhere l at n o whole same h = sym (ap (code-in n o) (row-end 4 (omega arith) section-row l at h)) ∙ same
 
 kind-is : (k : ℕ) → is-code (kind-of k) ≡ eqb k 1
 unfolding if

@@ -1,4 +1,4 @@
--- Function symbols by halving, and the last one below an address. Assumes nothing.
+-- The last function symbol below an address. Assumes nothing.
 use Prim.Native.Nat.{ℕ, zero, suc, _+_, _*_, _-_, _/_, _%_, _≤_, _<_}
 use mathlib.Core.Path.{_≡_, refl, sym, ap, _∙_}
 use mathlib.Core.Bool.{Bool, true, false}
@@ -17,42 +17,14 @@ use Rattle.rules.specs.Given as givens
 use Rattle.rules.specs.Step.{Around, lower-symbol, symbol-over}
 use Rattle.rules.proofs.Ordered.{rank-keys}
 use Rattle.ordered.proofs.Arrays.{Halved, halved-up, halved-down, halved-end}
-use Rattle.obj.specs.Lent.{Lent, rows, symbol-row, given, image}
+use Rattle.obj_image.specs.Lent.{Lent, rows, symbol-row, given, image}
 use Rattle.obj.specs.Sections.{IsCode}
-use Rattle.obj.specs.Symbols.{symbol-of, addresses}
+use Rattle.obj_rows.specs.Symbols.{symbol-of, addresses}
 use Rattle.obj.specs.declared.sections.Code.{Code}
-use Rattle.obj.specs.declared.symbols.Symbol.{Symbol}
-use Rattle.obj.proofs.Rows.{rows-count, rows-drop, getD-mapped}
-use Rattle.obj.proofs.SymbolRows.{symbol-here}
-
-abbrev pub addressOf : SymbolRow → ℕ
-addressOf s = s .address
-
-module _ (f : List ℕ) (whole : length f % 3 ≡ 0) where
-  count-is : length (addresses f) ≡ length f / 3
-  count-is = length-map (rows 3 symbol-row f) addressOf ∙ sym (rows-count 3 (omega arith) symbol-row f whole)
-
-  address-at : (i : ℕ) → i < length f / 3 → getD (addresses f) i 0 ≡ getD f (i * 3) 0
-  address-at i h = getD-mapped addressOf 0 (rows 3 symbol-row f) i _ _ (rows-drop 3 (omega arith) symbol-row f i ∙ symbol-here f (i * 3) (omega arith))
-
-  take-is : take (length f / 3) (addresses f) ≡ addresses f
-  take-is = take-all (length f / 3) (addresses f) (omega (arith, count-is))
-
-  module _ (rise : Rising self (addresses f)) where
-    rise-part : Rising self (take (length f / 3) (addresses f))
-    rise-part = rw take-is rise
-
-    room : length f / 3 ≤ length (addresses f)
-    room = omega (arith, count-is)
-
-    pub below-up : (q lo hi mid : ℕ) → Halved (addresses f) (length f / 3) q lo hi → mid < hi → getD f (mid * 3) 0 < q → Halved (addresses f) (length f / 3) q (mid + 1) hi
-    below-up q lo hi mid v h t = halved-up (addresses f) (length f / 3) room rise-part q lo hi mid v h (rw (address-at mid (omega (arith, v .end))) t)
-
-    pub below-down : (q lo hi mid : ℕ) → Halved (addresses f) (length f / 3) q lo hi → lo ≤ mid → mid < hi → q ≤ getD f (mid * 3) 0 → Halved (addresses f) (length f / 3) q lo mid
-    below-down q lo hi mid v h k t = halved-down (addresses f) (length f / 3) room rise-part q lo hi mid v h k (rw (address-at mid (omega (arith, v .end))) t)
-
-    pub below-end : (q lo hi : ℕ) → Halved (addresses f) (length f / 3) q lo hi → hi ≤ lo → lo ≡ rank self q (addresses f)
-    below-end q lo hi v h = rw take-is at (halved-end (addresses f) (length f / 3) room rise-part q lo hi v h)
+use Rattle.obj_rows.specs.declared.symbols.Symbol.{Symbol}
+use Rattle.obj_image.proofs.Rows.{rows-count, rows-drop, getD-mapped}
+use Rattle.obj_rows.proofs.SymbolRows.{symbol-here}
+pub use Rattle.obj_rows.proofs.Halving.{addressOf, below-up, below-down, below-end}
 
 -- ---- the last symbol below an address
 

@@ -11,12 +11,12 @@ use Rattle.rules.specs.Choice.{if, by-if, if-true, if-false}
 use Rattle.rules.specs.Image.{Image, code-words}
 use Rattle.rules.specs.Given.{Given, OutcomeRow, image-of}
 use Rattle.rules.specs.Check as rules
-use Rattle.obj.specs.Lent.{lent, rows, outcome-row, symbol-row, skip-row, given, seen}
+use Rattle.obj_image.specs.Lent.{lent, rows, outcome-row, symbol-row, skip-row, given, seen}
 use Rattle.obj.specs.Sections.{Few}
-use Rattle.obj.specs.Symbols.{symbol-holds}
+use Rattle.obj_rows.specs.Symbols.{symbol-holds}
 use Rattle.obj.specs.declared.sections.Code.{Code}
-use Rattle.obj.proofs.Rows.{rows-count, not-whole}
-use Rattle.obj.proofs.CheckImage.{For, few-of}
+use Rattle.obj_image.proofs.Rows.{rows-count, not-whole}
+use Rattle.obj_image.proofs.CheckImage.{For, few-of}
 use Rattle.obj.proofs.Seen.{Code-is, words-is}
 use Rattle.obj.proofs.Alike.{alike-seen, outcomes-alike, rest-alike}
 

@@ -14,11 +14,11 @@ use Rattle.rules.specs.Image.{no-section, section-at}
 use Rattle.rules.specs.Given.{SectionRow, sections-of, kind-of, image-of}
 use Rattle.rules.specs.Check as rules
 use Rattle.rules.proofs.Tests.{and-left, and-right}
-use Rattle.obj.specs.Lent.{Lent, rows, section-row, given}
+use Rattle.obj_image.specs.Lent.{Lent, rows, section-row, given}
 use Rattle.obj.specs.Sections.{row-of, IsPart}
-use Rattle.obj.specs.declared.sections.Section.{Section}
+use Rattle.obj_image.specs.declared.sections.Section.{Section}
 use Rattle.obj.specs.declared.sections.Part.{Part}
-use Rattle.obj.proofs.Rows.{row-end}
+use Rattle.obj_image.proofs.Rows.{row-end}
 use Rattle.obj.proofs.CodeSection.{bytes-whole, bytes-count}
 
 -- the section i of these, whose bytes begin at an offset

@@ -16,17 +16,17 @@ use Rattle.rules.specs.Given.{SectionRow, SymbolRow}
 use Rattle.rules.specs.Check as rules
 use Rattle.rules.proofs.Tests.{and-left, and-right}
 use Rattle.rules.proofs.Passes.{Passed, passed-of, checked-of}
-use Rattle.obj.specs.Lent.{Lent, rows, section-row, outcome-row, symbol-row, skip-row, given, image}
+use Rattle.obj_image.specs.Lent.{Lent, rows, section-row, outcome-row, symbol-row, skip-row, given, image}
 use Rattle.obj.specs.Sections.{Few, IsCode, InBytes}
 use Rattle.obj.specs.Outcomes.{InCode}
-use Rattle.obj.specs.Symbols.{addresses}
+use Rattle.obj_rows.specs.Symbols.{addresses}
 use Rattle.obj.specs.declared.sections.Code.{Code}
-use Rattle.obj.proofs.Rows.{rows-count, whole-of}
-use Rattle.obj.proofs.SectionRows.{code-in, locate-in, located}
-use Rattle.obj.proofs.CodeSection.{code-is}
-use Rattle.obj.proofs.CheckImage.{few-of}
-use Rattle.obj.proofs.SymbolRows.{not-a-symbol}
-use Rattle.obj.proofs.SkipRows.{not-a-skip}
+use Rattle.obj_image.proofs.Rows.{rows-count, whole-of}
+use Rattle.obj_image.proofs.SectionRows.{locate-in, located}
+use Rattle.obj.proofs.CodeSection.{code-in, code-is}
+use Rattle.obj_image.proofs.CheckImage.{few-of}
+use Rattle.obj_rows.proofs.SymbolRows.{not-a-symbol}
+use Rattle.obj_rows.proofs.SkipRows.{not-a-skip}
 use Rattle.obj.proofs.Numbers.{not-an-outcome}
 use Rattle.obj.proofs.Halving.{addressOf}
 

@@ -11,17 +11,17 @@ use Rattle.rules.specs.Choice.{if}
 use Rattle.rules.specs.Address.{address-of}
 use Rattle.rules.specs.Image as images
 use Rattle.rules.specs.Given.{branch-of, outcome-of, told-of, image-of}
-use Rattle.obj.specs.Lent.{Lent, rows, outcome-row, branch-row, to-number, given, image}
+use Rattle.obj_image.specs.Lent.{Lent, rows, outcome-row, branch-row, to-number, given, image}
 use Rattle.obj.specs.Sections.{IsCode}
 use Rattle.obj.specs.Outcomes.{row-of, branch-list, outcome-for, told-for}
 use Rattle.obj.specs.declared.sections.Code.{Code}
-use Rattle.obj.specs.declared.outcomes.Row.{Row}
+use Rattle.obj_rows.specs.declared.outcomes.Row.{Row}
 use Rattle.obj.specs.declared.outcomes.Branch.{Branch}
 use Rattle.obj.specs.declared.outcomes.To.the-variants.{Nowhere, Address, Table, Elsewhere}
 use Rattle.obj.specs.declared.outcomes.Outcome.{Outcome}
 use Rattle.obj.specs.declared.outcomes.Outcome.the-variants.{Branches}
-use Rattle.obj.proofs.Rows.{by-less, rows-drop, getD-mapped}
-use Rattle.obj.proofs.OutcomeRows.{row-mark}
+use Rattle.obj_image.proofs.Rows.{by-less, rows-drop, getD-mapped}
+use Rattle.obj_rows.proofs.OutcomeRows.{row-mark}
 
 -- ---- a branch
 

@@ -13,7 +13,7 @@ use Rattle.rules.specs.Bytes.{words-in}
 use Rattle.rules.specs.Image as images
 use Rattle.rules.specs.Image.{code-section, no-word, contains}
 use Rattle.rules.specs.Check as rules
-use Rattle.obj.specs.Lent.{Lent, given, image}
+use Rattle.obj_image.specs.Lent.{Lent, given, image}
 use Rattle.obj.specs.Sections.{IsCode, InBytes}
 use Rattle.obj.specs.declared.sections.Code.{Code}
 

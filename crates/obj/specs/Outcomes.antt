@@ -1,24 +1,18 @@
--- Outcomes as rows and by value.
+-- Outcomes by value; as rows they are passed on.
 use Prim.Native.Nat.{ℕ, _+_, _*_, _-_, _/_, _≤_}
 use mathlib.Core.Bool.{Bool}
 use mathlib.Core.List.{List, [], _∷_, _++_}
 use lib.ListN.{length}
 use Rattle.rules.specs.Address.{address-of}
 use Rattle.rules.specs.Image as images
-use Rattle.rules.specs.Given.{OutcomeRow}
-use Rattle.obj.specs.Lent.{outcome-row}
 use Rattle.obj.specs.declared.sections.Code.{Code}
-use Rattle.obj.specs.declared.outcomes.Row.{Row}
 use Rattle.obj.specs.declared.outcomes.Branch.{Branch}
 use Rattle.obj.specs.declared.outcomes.Told.{Told}
 use Rattle.obj.specs.declared.outcomes.To.{To}
 use Rattle.obj.specs.declared.outcomes.To.the-variants.{Nowhere, Address, Table, Elsewhere}
 use Rattle.obj.specs.declared.outcomes.Outcome.{Outcome}
 use Rattle.obj.specs.declared.outcomes.Outcome.the-variants.{GoOn, Illegal, Unknown, Return, Jump, JumpTable, Branches}
-
--- a row by value
-abbrev pub row-of : Row → OutcomeRow
-row-of r = outcome-row (r .kind ∷ r .mark ∷ r .first ∷ r .second ∷ r .third ∷ r .fourth ∷ [])
+pub use Rattle.obj_rows.specs.Outcomes.{row-of}
 
 -- a branch by value: one that goes nowhere is none
 abbrev pub to-list : Bool → To → List images.Branch

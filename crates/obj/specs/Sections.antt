@@ -1,35 +1,17 @@
--- The sections as rows, and what the lookups in them come to.
+-- The sections as rows, passed on, and what the lookups in them come to.
 use Prim.Native.Nat.{ℕ, _+_, _%_, _≤_}
 use mathlib.Core.Path.{_≡_}
-use mathlib.Core.Bool.{Bool, true, _&&_}
-use mathlib.Core.List.{List, []}
+use mathlib.Core.Bool.{true}
+use mathlib.Core.List.{List}
 use lib.ListN.{length, take, drop}
 use Rattle.rules.specs.Bytes.{words-in}
-use Rattle.rules.specs.Image as images
 use Rattle.rules.specs.Image.{code-number, code-section, section-at}
-use Rattle.rules.specs.Given.{SectionRow, section-of-row, kind-of}
-use Rattle.rules.specs.Check.{is-kind, is-placed, code-fits, has-bytes, check-image}
-use Rattle.obj.specs.Lent.{Lent, given, image}
-use Rattle.obj.specs.declared.sections.Section.{Section}
+use Rattle.rules.specs.Given.{kind-of}
+use Rattle.rules.specs.Check.{check-image}
+use Rattle.obj_image.specs.Lent.{Lent, given, image}
 use Rattle.obj.specs.declared.sections.Code.{Code}
 use Rattle.obj.specs.declared.sections.Part.{Part}
-
--- a section by value, as a row
-abbrev pub row-of : Section → SectionRow
-row-of s = record { kind = s .kind; base = s .base; size = s .size; given = s .given }
-
--- without its bytes
-abbrev pub part-of : Section → images.Section
-part-of s = section-of-row (row-of s) []
-
--- what is asked of each section alone
-abbrev pub section-holds : SectionRow → Bool
-section-holds r = is-kind r && is-placed r && code-fits r && has-bytes r
-
--- at most 8 whole rows
-pub record Few (s : List ℕ) : Type 0 where
-  pub whole : length s % 4 ≡ 0
-  pub few : length s ≤ 32
+pub use Rattle.obj_image.specs.Sections.{row-of, part-of, section-holds, Few}
 
 -- the code section of the image; where the image passes check 1, with its bytes
 pub record IsCode (l : Lent) (c : Code) : Type 0 where

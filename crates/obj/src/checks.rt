@@ -2,7 +2,7 @@
 ghost use mathlib.Core.Path.{_≡_};
 ghost use mathlib.Core.List.{[]};
 ghost use Rattle.rules.specs.Check as rules;
-ghost use Rattle.obj.specs.Lent.{lent, given, seen};
+ghost use Rattle.obj_image.specs.Lent.{lent, given, seen};
 ghost use Rattle.obj.specs.Sections.{Few};
 use crate::outcomes::check_outcomes;
 use crate::sections::check_image;

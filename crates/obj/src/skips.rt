@@ -1,32 +1,18 @@
 // The skip ranges: what check 3 asks of them, and the range that holds an address.
 ghost use mathlib.Core.Path.{_≡_};
-ghost use mathlib.Core.List.{[], _∷_};
-ghost use Prim.Native.Nat.{_+_, _%_, _≤_};
-ghost use lib.ListN.{length, drop};
+ghost use Prim.Native.Nat.{_%_};
+ghost use lib.ListN.{length};
 ghost use Rattle.rules.specs.Check as rules;
-ghost use Rattle.rules.specs.Image as images;
-ghost use Rattle.obj.specs.Lent.{Lent, rows, skip-row, image, seen};
+ghost use Rattle.obj_image.specs.Lent.{rows, skip-row, seen};
 ghost use Rattle.obj.specs.Sections.{Few};
-ghost use Rattle.obj.specs.Skips.{range-of, IsSkipped};
+ghost use Rattle.obj_rows.specs.Skips.{range-of};
 use crate::sections::code_section;
 use crate::sections::wide;
-
-// A range of addresses, from its first to just below the second.
-pub struct Range {
-    pub first: u32,
-    pub past: u32,
-}
-
-// The range whose row begins at an index: the next one of the rows from there.
-fn range_at(skips: &[u32], at: usize) -> Range
-    requires { ⌜ at + 2 ≤ length (now skips) ⌝ }
-    ensures { λ r. ⌜ rows 2 skip-row (drop at (now (skips .entry))) ≡ range-of r ∷ rows 2 skip-row (drop (at + 2) (now (skips .entry))) ⌝ }
-{
-    Range {
-        first: skips[at],
-        past: skips[at + 1],
-    }
-}
+pub use obj_rows::skips::Range;
+pub use obj_rows::skips::in_skipped_range;
+use obj_rows::skips::range_at;
+pub use obj_rows::skips::skip_range;
+use obj_rows::skips::skips_ascend;
 
 // Skip ranges are nonempty, aligned, inside code.
 fn is_skip(sections: &[u32], r: Range) -> bool
@@ -56,30 +42,6 @@ fn all_skips(sections: &[u32], skips: &[u32]) -> bool
     true
 }
 
-fn comes_before(r: Range, s: Range) -> bool
-    ensures { λ t. ⌜ t ≡ rules.comes-before (seen []) (range-of r) (range-of s) ⌝ }
-{
-    r.past <= s.first
-}
-
-// Ascending; they may touch but not overlap.
-fn skips_ascend(skips: &[u32]) -> bool
-    requires { ⌜ length (now skips) % 2 ≡ 0 ⌝ }
-    ensures { λ r. ⌜ r ≡ rules.chained (rules.comes-before (seen [])) (rows 2 skip-row (now (skips .entry))) ⌝ }
-{
-    let mut at: usize = 0;
-    let mut next: usize = 2;
-    while next < skips.len() {
-        if comes_before(range_at(skips, at), range_at(skips, next)) {
-            at = next;
-            next += 2;
-        } else {
-            return false;
-        }
-    }
-    true
-}
-
 // At most 64.
 pub fn are_skips(sections: &[u32], skips: &[u32]) -> bool
     requires { ⌜ Few (now sections) ⌝ }
@@ -89,34 +51,4 @@ pub fn are_skips(sections: &[u32], skips: &[u32]) -> bool
         return (skips.len() / 2 <= 64) & all_skips(sections, skips) & skips_ascend(skips);
     }
     false
-}
-
-fn in_range(a: u32, r: Range) -> bool
-    ensures { λ t. ⌜ t ≡ images.in-range a (range-of r) ⌝ }
-{
-    (r.first <= a) & (a < r.past)
-}
-
-// Over one skip range: where the first that holds a ends; a where none does. There are at most 64.
-pub fn skip_range(skips: &[u32], a: u32) -> u32
-    requires { ⌜ length (now skips) % 2 ≡ 0 ⌝ }
-    ensures { λ r. ⌜ IsSkipped (now (skips .entry)) a r ⌝ }
-{
-    let mut at: usize = 0;
-    while at < skips.len() {
-        let r = range_at(skips, at);
-        if in_range(a, r) {
-            return r.past;
-        }
-        at += 2;
-    }
-    a
-}
-
-// Whether an address lies in a skip range: one that does is not where its range ends.
-pub fn in_skipped_range(skips: &[u32], a: u32) -> bool
-    requires { ⌜ length (now skips) % 2 ≡ 0 ⌝ }
-    ensures { λ r. ⌜ ((l : Lent) → l .skips ≡ now (skips .entry) → r ≡ images.in-skipped-range (image l) a) ⌝ }
-{
-    skip_range(skips, a) != a
 }

@@ -1,4 +1,1 @@
-pub mod Table
-pub mod Named
-pub mod Distance
 pub mod Scan

@@ -3,19 +3,14 @@ use Prim.Native.Nat.{ℕ, _+_, _-_, _≤_, _<_}
 use mathlib.Core.Path.{_≡_, sym, _∙_, ap}
 use mathlib.Core.Bool.{Bool, true, false, _&&_, _||_, or-false}
 use mathlib.Core.List.{List, [], _∷_}
-use lib.ListN.{length, drop, getD}
+use lib.ListN.{length, drop}
 use Rattle.rules.specs.Choice.{if, if-true, if-false}
-use Rattle.rules.specs.Bytes.{word-of, words-in, words-at}
+use Rattle.rules.specs.Bytes.{words-in, words-at}
 use Rattle.rules.specs.Sequences.{is-end-of-seq, scan, prologue-pairs, epilogue-pairs, check-prologue-sequence, check-epilogue-sequence}
 use Rattle.rules.specs.Words.{is-stwu, is-mflr, is-mtlr, is-or}
-use Rattle.rules.proofs.Bytes.{one-word, no-word, words-below, words-from}
+use Rattle.rules.proofs.Bytes.{no-word, words-below, words-from}
 use Rattle.ppc.specs.Tests.{test, IsFirst}
 use Rattle.ppc.specs.declared.sequences.First.{First}
-
--- a word, from its four bytes
-pub word-is : (l : List ℕ) (i a b c d : ℕ) → i + 4 ≤ length l → a ≡ getD l i 0 → b ≡ getD l (i + 1) 0 → c ≡ getD l (i + 2) 0 → d ≡ getD l (i + 3) 0
-    → words-in (drop i l) ≡ word-of a b c d ∷ words-in (drop (i + 4) l)
-word-is l i a b c d h ea eb ec ed = rw (ea, eb, ec, ed) (one-word l i h)
 
 -- the words l, of which w is the first and ws are the others, come to what the words whole come to
 module _ (t w : ℕ) (l ws whole : List ℕ) (same : scan (test t) l ≡ scan (test t) whole) (word : l ≡ w ∷ ws) where

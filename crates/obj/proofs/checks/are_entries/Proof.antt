@@ -1,5 +1,5 @@
 -- `obj::checks::are_entries` is `are-entries` of `rules`. Assumes nothing.
-use Rattle.obj.proofs.SymbolRows.{no-entry, one-entry, more-entries}
+use Rattle.obj_rows.proofs.SymbolRows.{no-entry, one-entry, more-entries}
 use borrow.Author.Needs.{needs}
 use Rattle.obj.proofs.checks.are_entries.Statement.{statement}
 use Rattle.obj.proofs.checks.are_entries.Tie as tie

@@ -3,9 +3,8 @@ use Prim.Native.Nat.{_+_, _-_, _*_, _%_, _≤_}
 use mathlib.Core.Path.{_≡_, refl}
 use native.Mathlib.Omega.{arith}
 use lib.ListN.{length, drop}
-use Rattle.obj.specs.Lent.{rows, section-row}
-use Rattle.obj.proofs.SectionRows.{code-in, code-here, code-later, code-nowhere}
-use Rattle.obj.proofs.CodeSection.{code-is}
+use Rattle.obj_image.specs.Lent.{rows, section-row}
+use Rattle.obj.proofs.CodeSection.{code-in, code-here, code-later, code-nowhere, code-is}
 use borrow.Author.Needs.{needs}
 use Rattle.obj.proofs.sections.code_section.Statement.{statement}
 use Rattle.obj.proofs.sections.code_section.Tie as tie

@@ -3,7 +3,7 @@ use Prim.Native.Nat.{_+_, _-_, _*_, _/_, _%_, _≤_}
 use mathlib.Core.Path.{_≡_, refl}
 use native.Mathlib.Omega.{arith}
 use lib.ListN.{length, drop}
-use Rattle.obj.specs.Lent.{rows, section-row}
+use Rattle.obj_image.specs.Lent.{rows, section-row}
 use Rattle.obj.proofs.Part.{part-in, part-here, part-later, part-nowhere, part-is}
 use borrow.Author.Needs.{needs}
 use Rattle.obj.proofs.sections.section_of.Statement.{statement}

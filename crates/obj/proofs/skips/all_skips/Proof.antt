@@ -4,8 +4,8 @@ use mathlib.Core.Path.{_≡_, refl}
 use native.Mathlib.Omega.{arith}
 use lib.ListN.{length, drop}
 use Rattle.rules.specs.Check.{all, is-skip}
-use Rattle.obj.specs.Lent.{rows, skip-row, seen}
-use Rattle.obj.proofs.Loops.{all-fails, all-on, all-ends}
+use Rattle.obj_image.specs.Lent.{rows, skip-row, seen}
+use Rattle.obj_image.proofs.Loops.{all-fails, all-on, all-ends}
 use borrow.Author.Needs.{needs}
 use Rattle.obj.proofs.skips.all_skips.Statement.{statement}
 use Rattle.obj.proofs.skips.all_skips.Tie as tie

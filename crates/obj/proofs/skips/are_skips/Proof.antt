@@ -1,5 +1,5 @@
 -- `obj::skips::are_skips` is `are-skips` of `rules`. Assumes nothing.
-use Rattle.obj.proofs.SkipRows.{skips-are, skips-broken}
+use Rattle.obj_rows.proofs.SkipRows.{skips-are, skips-broken}
 use borrow.Author.Needs.{needs}
 use Rattle.obj.proofs.skips.are_skips.Statement.{statement}
 use Rattle.obj.proofs.skips.are_skips.Tie as tie

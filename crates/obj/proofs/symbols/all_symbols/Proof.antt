@@ -4,9 +4,9 @@ use mathlib.Core.Path.{_≡_, refl}
 use native.Mathlib.Omega.{arith}
 use lib.ListN.{length, drop}
 use Rattle.rules.specs.Check.{all}
-use Rattle.obj.specs.Lent.{rows, symbol-row, seen}
-use Rattle.obj.proofs.Loops.{all-fails, all-on, all-ends}
-use Rattle.obj.specs.Symbols.{symbol-holds}
+use Rattle.obj_image.specs.Lent.{rows, symbol-row, seen}
+use Rattle.obj_image.proofs.Loops.{all-fails, all-on, all-ends}
+use Rattle.obj_rows.specs.Symbols.{symbol-holds}
 use borrow.Author.Needs.{needs}
 use Rattle.obj.proofs.symbols.all_symbols.Statement.{statement}
 use Rattle.obj.proofs.symbols.all_symbols.Tie as tie

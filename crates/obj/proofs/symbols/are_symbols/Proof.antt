@@ -1,5 +1,5 @@
 -- `obj::symbols::are_symbols` is `are-symbols` of `rules`. Assumes nothing.
-use Rattle.obj.proofs.SymbolRows.{symbols-are, symbols-broken}
+use Rattle.obj_rows.proofs.SymbolRows.{symbols-are, symbols-broken}
 use borrow.Author.Needs.{needs}
 use Rattle.obj.proofs.symbols.are_symbols.Statement.{statement}
 use Rattle.obj.proofs.symbols.are_symbols.Tie as tie

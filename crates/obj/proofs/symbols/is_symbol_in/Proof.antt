@@ -1,5 +1,5 @@
 -- `obj::symbols::is_symbol_in` is the test of its list. Assumes nothing.
-use Rattle.obj.proofs.SymbolRows.{holds-function, holds-object}
+use Rattle.obj_rows.proofs.SymbolRows.{holds-function, holds-object}
 use borrow.Author.Needs.{needs}
 use Rattle.obj.proofs.symbols.is_symbol_in.Statement.{statement}
 use Rattle.obj.proofs.symbols.is_symbol_in.Tie as tie

@@ -5,8 +5,6 @@ use Rattle.ppc.proofs.sequences.check_prologue_sequence.Statement.{stat
 use Rattle.ppc.proofs.sequences.check_prologue_sequence.Tie as tie
 use Rattle.ppc.proofs.sequences.check_sequence.Reads as check-sequence-reads
 use Rattle.ppc.proofs.sequences.first_word.Reads as first-word-reads
-use Rattle.ppc.proofs.words.is_mflr.Reads as is-mflr-reads
-use Rattle.ppc.proofs.words.is_stwu.Reads as is-stwu-reads
 
 first-word-requires : tie.Need-first-word-requires
 first-word-requires c κs = search needs

@@ -8,7 +8,6 @@ use Rattle.ppc.proofs.Scan.{below-section, past-section, in-section}
 use borrow.Author.Needs.{needs}
 use Rattle.ppc.proofs.sequences.first_word.Statement.{statement}
 use Rattle.ppc.proofs.sequences.first_word.Tie as tie
-use Rattle.ppc.proofs.words.word_at.Reads as word-at-reads
 
 returns : tie.Need-returns
 returns c = below-section _ refl (c .if1 .taken)

@@ -4,9 +4,6 @@ use Rattle.rules.specs.Registers.{names-r0-or-r1, registers-named}
 use borrow.Author.Needs.{needs}
 use Rattle.ppc.proofs.sequences.is_end_of_seq.Statement.{statement}
 use Rattle.ppc.proofs.sequences.is_end_of_seq.Tie as tie
-use Rattle.ppc.proofs.fields.field.Reads as field-reads
-use Rattle.ppc.proofs.registers.code.Reads as code-reads
-use Rattle.ppc.proofs.registers.names_low.Reads as names-low-reads
 
 code-requires : tie.Need-code-requires
 code-requires c κs = search needs

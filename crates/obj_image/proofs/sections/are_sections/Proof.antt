@@ -1,0 +1,48 @@
+-- `obj::sections::are_sections` is that each row passes. Assumes nothing.
+use Prim.Native.Nat.{_-_, _%_, _≤_}
+use mathlib.Core.Path.{_≡_, refl}
+use native.Mathlib.Omega.{arith}
+use lib.ListN.{length, drop}
+use Rattle.rules.specs.Check.{all}
+use Rattle.obj_image.specs.Lent.{rows, section-row}
+use Rattle.obj_image.proofs.Loops.{all-fails, all-on, all-ends}
+use Rattle.obj_image.specs.Sections.{section-holds}
+use borrow.Author.Needs.{needs}
+use Rattle.obj_image.proofs.sections.are_sections.Statement.{statement}
+use Rattle.obj_image.proofs.sections.are_sections.Tie as tie
+
+abbrev Inv-loop : tie.InvT-loop
+Inv-loop sections at₀ at = (at ≤ length sections) × (at % 4 ≡ 0) × (all section-holds (rows 4 section-row (drop at sections)) ≡ all section-holds (rows 4 section-row sections))
+
+abbrev μ-loop : tie.MeasureT-loop
+μ-loop sections at₀ at = length sections - at
+
+loop-holds : tie.Need-loop-holds Inv-loop μ-loop
+loop-holds c = (omega arith, omega arith, refl)
+
+loop-less : tie.Need-loop-less Inv-loop μ-loop
+loop-less c = omega arith
+
+loop-again : tie.Need-loop-again Inv-loop μ-loop
+loop-again c = (omega arith, omega arith, search (needs, all-on))
+
+returns : tie.Need-returns Inv-loop μ-loop
+returns c = search (needs, all-fails)
+
+returns-2 : tie.Need-returns-2 Inv-loop μ-loop
+returns-2 c = search (needs, all-ends)
+
+pub are-sections-spec : {M : Type 1} → statement M
+are-sections-spec =
+    tie.close
+    (tie.spec
+    Inv-loop
+    μ-loop
+    loop-holds
+    (λ c κs. search needs)
+    (λ c κs. search needs)
+    (λ c. search needs)
+    loop-less
+    loop-again
+    returns
+    returns-2)

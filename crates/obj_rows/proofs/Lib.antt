@@ -1,0 +1,5 @@
+pub mod OutcomeRows
+pub mod SkipRows
+pub mod SymbolRows
+pub mod Seen
+pub mod Halving

@@ -1,0 +1,2 @@
+// The targets of direct branches.
+pub mod branches;

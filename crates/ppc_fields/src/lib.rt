@@ -1,0 +1,2 @@
+// The fields of instruction words.
+pub mod fields;

@@ -1,0 +1,19 @@
+-- `ppc::registers::bit_of`: a digit of one bit. Assumes nothing.
+use Prim.Native.Nat.{_*_}
+use mathlib.Core.Path.{_≡_}
+use native.Mathlib.Omega.{arith}
+use borrow.Author.Needs.{needs}
+use Rattle.ppc_registers.proofs.registers.bit_of.Statement.{statement}
+use Rattle.ppc_registers.proofs.registers.bit_of.Tie as tie
+
+shr-result : tie.Need-shr-result
+shr-result c = search needs
+
+cast-result : tie.Need-cast-result
+cast-result c = search needs
+
+returns : tie.Need-returns
+returns c = let e : 1 * c .args .k ≡ c .args .k = omega arith in rw e (search needs)
+
+pub bit-of-spec : {M : Type 1} → statement M
+bit-of-spec = tie.close (tie.spec shr-result cast-result returns)

@@ -1,0 +1,17 @@
+-- `ppc::registers::register_fields`: the four lowest bits of the code. Assumes nothing.
+use mathlib.Core.Path.{_∙_}
+use native.Mathlib.Omega.{arith}
+use Rattle.ppc_registers.proofs.Named.{low-code}
+use borrow.Author.Needs.{needs}
+use Rattle.ppc_registers.proofs.registers.register_fields.Statement.{statement}
+use Rattle.ppc_registers.proofs.registers.register_fields.Tie as tie
+use Rattle.ppc_registers.proofs.registers.code.Reads as code-reads
+
+code-requires : tie.Need-code-requires
+code-requires c κs = search needs
+
+returns : tie.Need-returns
+returns c = (low-code (c .code .result) ∙ c .code .ensures .fields, omega arith)
+
+pub register-fields-spec : {M : Type 1} → statement M
+register-fields-spec = tie.close (tie.spec code-requires returns)

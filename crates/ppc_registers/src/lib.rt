@@ -1,0 +1,2 @@
+// The registers that an instruction word names.
+pub mod registers;
