@@ -1,5 +1,23 @@
-// Prints for each image of its input the number that `obj::checks::check` gives it and, where that is 0, the entries of each jump
-// table in it. docs/CHECKED.md has the format of the input and what is printed.
+// Prints for each image of its input the number that `obj::checks::check` gives it and, where that is 0, what the reading of each
+// jump table in it comes to.
+//
+// An image is lines of text, ended by a line `=`. A line that begins with `#` is a remark. Any other line begins with the letter of a
+// list, and puts numbers at that list's end, so the lists are lent as they stand, rows that are not whole too:
+//
+//   s  sections     o  outcomes     f  functions     j  objects     k  skips     e  entry     b  bytes
+//
+// Numbers are hexadecimal, of up to eight digits, with spaces between them; bytes have two digits each, and need no spaces. `*` and a
+// hexadecimal count at the end of a line say how often the line's numbers come in all. The lines of a list of numbers stand together.
+//
+// Printed are a line with the check's number, then a line for each table that an outcome names, as a jump table or in a list of
+// branches, in the order of the code words, and then `=`. A table's line has its address and the size given with it, and then
+// `size`, its size as read, and its entries, each with its section's number, counted from 1, before eight digits of address; or
+// `fault` and 9, 10 or 4. A branch gives no size, so there it is 0. A table without a size may lead to where a walk straight from its
+// function's start would let it: from the last function symbol at or below the word that names it, or else from code's first word, up
+// to the end that the symbol knows, or else up to that word's own end.
+//
+// An image with a line that is not of this form, or that no `=` ends, gets `?`; one with more than 400,000 numbers or 300,000 bytes
+// gets `!`.
 mod lines;
 mod tables;
 
