@@ -1,5 +1,5 @@
 // The lines of an image, a byte at a time: numbers are put at the end of its lists, and the line `=` has it answered.
-use crate::tables::report;
+use crate::tables::print_parts;
 
 // Where the next byte stands: at a line's start, among the line's numbers, in the count behind `*`, in a remark, behind `=`, or in
 // a line that is not of the format.
@@ -81,9 +81,6 @@ fn value_of(b: u8) -> u32 {
     if b >= b'0' && b <= b'9' {
         return (b - b'0') as u32;
     }
-    if b >= b'A' && b <= b'F' {
-        return (b - b'A') as u32 + 10;
-    }
     if b >= b'a' && b <= b'f' {
         return (b - b'a') as u32 + 10;
     }
@@ -104,30 +101,22 @@ fn list_of(b: u8) -> usize {
     }
 }
 
-// A line of numbers begins. The lines of a list stand together, so a list with numbers is not begun again.
-fn begin_numbers(s: State, list: usize) -> State {
+// A line of a list begins. The lines of a list of numbers stand together, so one that has numbers is not begun again.
+fn begin_list(s: State, list: usize) -> State {
     let mut r = at(s, AMONG);
     r.line = r.numbers;
     if list == r.list {
         return r;
     }
-    if list < 8 {
+    if list < 7 {
         if r.from[list] < r.to[list] {
             return wrong(r);
         }
         r.from[list] = r.numbers;
-        r.to[list] = r.numbers;
         r.list = list;
         return r;
     }
     wrong(r)
-}
-
-fn begin_bytes(s: State) -> State {
-    let mut r = at(s, AMONG);
-    r.list = BYTES;
-    r.line = r.bytes;
-    r
 }
 
 // The first byte of a line.
@@ -140,58 +129,11 @@ fn begin_line(s: State, b: u8) -> State {
     if b == b'=' {
         return at(r, ENDED);
     }
-    let list = list_of(b);
-    if list == BYTES {
-        return begin_bytes(r);
+    r = begin_list(r, list_of(b));
+    if r.list == BYTES {
+        r.line = r.bytes;
     }
-    if list < BYTES {
-        return begin_numbers(r, list);
-    }
-    wrong(r)
-}
-
-// A digit more of a number, which has up to eight.
-fn digit(s: State, d: u32) -> State {
-    let n = s.digits;
-    if n < 8 {
-        let mut r = s;
-        r.value = r.value % 0x1000_0000 * 16 + d % 16;
-        r.digits = n + 1;
-        return r;
-    }
-    wrong(s)
-}
-
-// The number that was read, if there is one, is put into its list.
-fn put_number(numbers: &mut Numbers, s: State) -> State {
-    if s.digits == 0 {
-        return s;
-    }
-    let n = s.numbers;
-    let mut r = at(s, AMONG);
-    if n < 400000 {
-        numbers[n] = s.value;
-        r.numbers = n + 1;
-        return r;
-    }
-    r.full = true;
     r
-}
-
-// A byte among the numbers of a line.
-fn number_byte(numbers: &mut Numbers, s: State, b: u8) -> State {
-    let d = value_of(b);
-    if d < 16 {
-        return digit(s, d);
-    }
-    let r = put_number(numbers, s);
-    if b == b' ' {
-        return r;
-    }
-    if b == b'*' {
-        return at(r, COUNT);
-    }
-    wrong(r)
 }
 
 fn put_byte(bytes: &mut Bytes, s: State, v: u32) -> State {
@@ -206,37 +148,56 @@ fn put_byte(bytes: &mut Bytes, s: State, v: u32) -> State {
     r
 }
 
-// A byte among the bytes of a line, which have two digits each.
-fn byte_byte(bytes: &mut Bytes, s: State, b: u8) -> State {
-    let d = value_of(b);
-    if d < 16 {
-        if s.digits == 1 {
-            return put_byte(bytes, s, s.value % 16 * 16 + d);
+// A digit of a number or count, which have up to eight, or of a byte, which has two.
+fn take_digit(bytes: &mut Bytes, s: State, d: u32) -> State {
+    let n = s.digits;
+    if n < 8 {
+        let v = s.value % 0x1000_0000 * 16 + d % 16;
+        if n == 1 && s.list == BYTES && s.place == AMONG {
+            return put_byte(bytes, s, v);
         }
-        return digit(s, d);
-    }
-    if s.digits == 0 {
-        if b == b' ' {
-            return s;
-        }
-        if b == b'*' {
-            return at(s, COUNT);
-        }
+        let mut r = s;
+        r.value = v;
+        r.digits = n + 1;
+        return r;
     }
     wrong(s)
 }
 
-// A byte of a count behind `*`.
-fn count_byte(s: State, b: u8) -> State {
-    let d = value_of(b);
-    if d < 16 {
-        return digit(s, d);
+// The number that was read, if there is one, is put into its list. Half a byte is none.
+fn put_number(numbers: &mut Numbers, s: State) -> State {
+    if s.digits == 0 {
+        return s;
+    }
+    if s.list == BYTES {
+        return wrong(s);
+    }
+    let n = s.numbers;
+    let mut r = at(s, AMONG);
+    if n < 400000 {
+        numbers[n] = s.value;
+        r.numbers = n + 1;
+        return r;
+    }
+    r.full = true;
+    r
+}
+
+// What stands between the numbers of a line, or before its count.
+fn take_mark(numbers: &mut Numbers, s: State, b: u8) -> State {
+    if s.place == AMONG {
+        if b == b' ' {
+            return put_number(numbers, s);
+        }
+        if b == b'*' {
+            return at(put_number(numbers, s), COUNT);
+        }
     }
     wrong(s)
 }
 
 // How many numbers there are once those from `line` up to `n` come `count` times; 2^40, which is more than there is room for, where
-// that is too many.
+// that is too many to tell.
 fn end_of(line: usize, n: usize, count: u32) -> usize {
     if line <= n {
         if n <= 400000 {
@@ -246,88 +207,55 @@ fn end_of(line: usize, n: usize, count: u32) -> usize {
     0x100_0000_0000
 }
 
-// The numbers before index i come again from there up to `end`, a line of `width` at a time.
-fn copy_numbers(numbers: &mut Numbers, n: usize, width: usize, end: usize) {
+// The line's numbers come as often as its count says: how many there are then. Where there is no room for them none is put.
+fn repeat_numbers(numbers: &mut Numbers, line: usize, n: usize, count: u32) -> usize {
+    let end = end_of(line, n, count);
+    if n < line {
+        return end;
+    }
+    if 400000 < end {
+        return end;
+    }
+    let width = n - line;
     let mut i = n;
     while i < end {
-        if width <= i {
-            if i < 400000 {
-                numbers[i] = numbers[i - width];
-            }
-        }
+        numbers[i] = numbers[i - width];
         i += 1;
     }
+    end
 }
 
-fn copy_bytes(bytes: &mut Bytes, n: usize, width: usize, end: usize) {
+fn repeat_bytes(bytes: &mut Bytes, line: usize, n: usize, count: u32) -> usize {
+    let end = end_of(line, n, count);
+    if n < line {
+        return end;
+    }
+    if 300000 < end {
+        return end;
+    }
+    let width = n - line;
     let mut i = n;
     while i < end {
-        if width <= i {
-            if i < 300000 {
-                bytes[i] = bytes[i - width];
-            }
-        }
+        bytes[i] = bytes[i - width];
         i += 1;
     }
+    end
 }
 
-// The line's numbers come as often as its count says.
-fn repeat_numbers(numbers: &mut Numbers, s: State) -> State {
-    let end = end_of(s.line, s.numbers, s.value);
+// A line ends with a count.
+fn end_count(numbers: &mut Numbers, bytes: &mut Bytes, s: State) -> State {
+    if s.digits == 0 {
+        return wrong(s);
+    }
     let mut r = s;
-    if end <= 400000 {
-        if s.line <= s.numbers {
-            copy_numbers(numbers, s.numbers, s.numbers - s.line, end);
-            r.numbers = end;
-            return r;
-        }
-    }
-    r.full = true;
-    r
-}
-
-fn repeat_bytes(bytes: &mut Bytes, s: State) -> State {
-    let end = end_of(s.line, s.bytes, s.value);
-    let mut r = s;
-    if end <= 300000 {
-        if s.line <= s.bytes {
-            copy_bytes(bytes, s.bytes, s.bytes - s.line, end);
-            r.bytes = end;
-            return r;
-        }
-    }
-    r.full = true;
-    r
-}
-
-// The line's list reaches as far as its numbers.
-fn end_numbers(s: State) -> State {
-    let mut r = at(s, START);
-    let list = r.list;
-    if list < 8 {
-        r.to[list] = r.numbers;
-    }
-    r
-}
-
-// A line of numbers or of bytes ends, with a count or without.
-fn end_list(numbers: &mut Numbers, bytes: &mut Bytes, s: State) -> State {
-    if s.place == COUNT {
-        if s.digits == 0 {
-            return at(wrong(s), START);
-        }
-        if s.list == BYTES {
-            return at(repeat_bytes(bytes, s), START);
-        }
-        return end_numbers(repeat_numbers(numbers, s));
-    }
     if s.list == BYTES {
-        if s.digits == 0 {
-            return at(s, START);
-        }
-        return at(wrong(s), START);
+        r.bytes = repeat_bytes(bytes, s.line, s.bytes, s.value);
+        r.full = s.full | (300000 < r.bytes);
+        return r;
     }
-    end_numbers(put_number(numbers, s))
+    r.numbers = repeat_numbers(numbers, s.line, s.numbers, s.value);
+    r.full = s.full | (400000 < r.numbers);
+    r
 }
 
 // The image is whole: it is answered. A line that is not of the format comes before too little room.
@@ -342,45 +270,37 @@ fn answer(numbers: &mut Numbers, bytes: &mut Bytes, s: State) {
     }
     let from = s.from;
     let to = s.to;
-    report(numbers, bytes, s.bytes, from, to);
+    print_parts(numbers, bytes, s.bytes, from, to);
+}
+
+// A line of a list ends, which reaches as far as there are numbers.
+fn end_list(s: State) -> State {
+    let mut r = at(s, START);
+    let list = r.list;
+    if list < 7 {
+        r.to[list] = r.numbers;
+    }
+    r
 }
 
 // A line ends. An empty one is not of the format.
 fn end_line(numbers: &mut Numbers, bytes: &mut Bytes, s: State) -> State {
-    if s.place == START {
-        let mut r = at(wrong(s), START);
-        r.open = true;
-        return r;
-    }
-    if s.place == ENDED {
+    let place = s.place;
+    if place == ENDED {
         answer(numbers, bytes, s);
         io::write_all(1, b"=\n");
         return fresh();
     }
-    if s.place == AMONG || s.place == COUNT {
-        return end_list(numbers, bytes, s);
+    if place == AMONG {
+        return end_list(put_number(numbers, s));
     }
-    at(s, START)
-}
-
-// A byte within a line.
-fn take_byte(numbers: &mut Numbers, bytes: &mut Bytes, s: State, b: u8) -> State {
-    if s.place == START {
-        return begin_line(s, b);
+    if place == COUNT {
+        return end_list(end_count(numbers, bytes, s));
     }
-    if s.place == AMONG {
-        if s.list == BYTES {
-            return byte_byte(bytes, s, b);
-        }
-        return number_byte(numbers, s, b);
-    }
-    if s.place == COUNT {
-        return count_byte(s, b);
-    }
-    if s.place == REMARK {
-        return s;
-    }
-    wrong(s)
+    let mut r = at(s, START);
+    r.open = true;
+    r.bad = s.bad | (place == START);
+    r
 }
 
 // A byte of the input.
@@ -388,7 +308,20 @@ pub fn take(numbers: &mut Numbers, bytes: &mut Bytes, s: State, b: u8) -> State 
     if b == b'\n' {
         return end_line(numbers, bytes, s);
     }
-    take_byte(numbers, bytes, s, b)
+    if s.place == START {
+        return begin_line(s, b);
+    }
+    if s.place == REMARK {
+        return s;
+    }
+    if s.place == AMONG || s.place == COUNT {
+        let d = value_of(b);
+        if d < 16 {
+            return take_digit(bytes, s, d);
+        }
+        return take_mark(numbers, s, b);
+    }
+    wrong(s)
 }
 
 // The input ends. An image that no line `=` ended gets no other answer.

@@ -5,8 +5,6 @@ ghost use lib.ListN.{length};
 ghost use Rattle.obj.specs.Sections.{Few};
 ghost use Rattle.ordered.specs.Part.{Column};
 ghost use Rattle.analysis.specs.Tables.{Passed};
-use crate::lines::Bytes;
-use crate::lines::Numbers;
 
 // From where to where a table without a size may lead.
 struct Bounds {
@@ -210,8 +208,8 @@ fn part(numbers: &[u32], from: usize, to: usize) -> &[u32] {
     &numbers[0..0]
 }
 
-// Takes the arrays apart into the lists of an image.
-fn print_parts(numbers: &[u32], bytes: &[u8], n: usize, from: [usize; 8], to: [usize; 8]) {
+// Takes the numbers apart into the lists of an image, of which list i lies from `from[i]` up to `to[i]`.
+pub fn print_parts(numbers: &[u32], bytes: &[u8], n: usize, from: [usize; 8], to: [usize; 8]) {
     if n <= bytes.len() {
         print_image(
             part(numbers, from[0], to[0]),
@@ -223,14 +221,4 @@ fn print_parts(numbers: &[u32], bytes: &[u8], n: usize, from: [usize; 8], to: [u
             part(numbers, from[5], to[5]),
         );
     }
-}
-
-pub fn report(
-    numbers: &mut Numbers,
-    bytes: &mut Bytes,
-    n: usize,
-    from: [usize; 8],
-    to: [usize; 8],
-) {
-    print_parts(numbers, bytes, n, from, to);
 }

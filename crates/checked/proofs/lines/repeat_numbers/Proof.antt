@@ -1,17 +1,29 @@
--- `checked::lines::copy_numbers` is safe and ends: the index goes up to the end.
+-- `checked::lines::repeat_numbers` is safe and ends: the index goes up to the end.
 use Prim.Native.Nat.{_≤_, _-_}
 use borrow.Author.Needs.{needs}
-use Rattle.checked.proofs.lines.copy_numbers.Statement.{statement}
-use Rattle.checked.proofs.lines.copy_numbers.Tie as tie
+use Rattle.checked.proofs.lines.repeat_numbers.Statement.{statement}
+use Rattle.checked.proofs.lines.repeat_numbers.Tie as tie
 
 abbrev Inv-loop : tie.InvT-loop
-Inv-loop numbers₀ n width end i₀ numbers i = n ≤ i
+Inv-loop numbers₀ line n count end width i₀ numbers i = n ≤ i
 
 abbrev μ-loop : tie.MeasureT-loop
-μ-loop numbers₀ n width end i₀ numbers i = end - i
+μ-loop numbers₀ line n count end width i₀ numbers i = end - i
+
+end-of-requires : tie.Need-end-of-requires Inv-loop μ-loop
+end-of-requires c κs = search needs
+
+returns : tie.Need-returns Inv-loop μ-loop
+returns c = search needs
+
+returns-2 : tie.Need-returns-2 Inv-loop μ-loop
+returns-2 c = search needs
 
 loop-holds : tie.Need-loop-holds Inv-loop μ-loop
 loop-holds c = search needs
+
+sub-numbers : tie.Need-sub-numbers Inv-loop μ-loop
+sub-numbers c = search needs
 
 mul-numbers : tie.Need-mul-numbers Inv-loop μ-loop
 mul-numbers c = search needs
@@ -34,16 +46,20 @@ loop-less c = search needs
 loop-again : tie.Need-loop-again Inv-loop μ-loop
 loop-again c = search needs
 
-returns : tie.Need-returns Inv-loop μ-loop
-returns c = search needs
+returns-3 : tie.Need-returns-3 Inv-loop μ-loop
+returns-3 c = search needs
 
-pub copy-numbers-spec : {M : Type 1} → statement M
-copy-numbers-spec =
+pub repeat-numbers-spec : {M : Type 1} → statement M
+repeat-numbers-spec =
     tie.close
     (tie.spec
     Inv-loop
     μ-loop
+    end-of-requires
+    returns
+    returns-2
     loop-holds
+    sub-numbers
     mul-numbers
     element-copy-out-numbers
     mul-numbers-2
@@ -51,4 +67,4 @@ copy-numbers-spec =
     add-i
     loop-less
     loop-again
-    returns)
+    returns-3)
