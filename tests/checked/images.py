@@ -715,7 +715,7 @@ def texts():
     good = list(text(short_code(2).lend()))
     for name, lines in (
             ('an empty line', good + ['']), ('a letter that names no list', good + ['x 1']), ('a number of nine digits', good + ['e 000001000']),
-            ('a sign', good + ['e -1000']), ('a list begun again', good + ['e 1000', 's 2 8000 4 4']), ('half a byte', good + ['b 0']), ('no count', good + ['e 1000 *']),
+            ('a sign', good + ['e -1000']), ('a capital letter', good + ['e 100C']), ('a list begun again', good + ['e 1000', 's 2 8000 4 4']), ('half a byte', good + ['b 0']), ('no count', good + ['e 1000 *']),
             ('a count that is no number', good + ['e 1000 *g']), ('something behind a count', good + ['e 1000 *1 1']), ('something behind the end', good + ['==']), ('an empty line first', [''] + good)):
         TEXTS.append((name, lines, '?'))
     for name, lines in (('400,001 numbers', ['k 0 *61a81']), ('300,001 bytes', ['b 00 *493e1']), ('a count of 32 bits', ['k 0 0 *ffffffff']), ('numbers one by one past the end', ['k 0 *61a80', 'e 1'])):

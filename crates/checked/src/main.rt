@@ -6,8 +6,9 @@
 //
 //   s  sections     o  outcomes     f  functions     j  objects     k  skips     e  entry     b  bytes
 //
-// Numbers are hexadecimal in small letters, of up to eight digits, with spaces between; bytes have two digits each, and need no spaces. `*` and a
-// hexadecimal count at the end of a line say how often the line's numbers come in all. The lines of a list of numbers stand together.
+// Numbers are hexadecimal, in small letters, of up to eight digits, with spaces between them; bytes have two digits each, and need no
+// spaces. `*` and a hexadecimal count at the end of a line say how often the line's numbers come in all. The lines of a list of
+// numbers stand together.
 //
 // Printed are a line with the check's number, then a line for each table that an outcome names, as a jump table or in a list of
 // branches, in the order of the code words, and then `=`. A table's line has its address and the size given with it, and then

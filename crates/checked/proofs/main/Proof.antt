@@ -1,5 +1,6 @@
 -- `checked::main` is safe and ends: each turn counts up to a million. Assumes nothing but what `read` and `write` are said to do.
 use Prim.Native.Nat.{_≤_, _-_}
+use native.Mathlib.Omega.{arith}
 use borrow.Author.Needs.{needs}
 use Rattle.checked.proofs.main.Statement.{statement}
 use Rattle.checked.proofs.main.Tie as tie
@@ -14,7 +15,7 @@ fresh-requires : tie.Need-fresh-requires Inv-loop μ-loop
 fresh-requires c κs = search needs
 
 loop-holds : tie.Need-loop-holds Inv-loop μ-loop
-loop-holds c = search needs
+loop-holds c = omega arith
 
 buffer-requires : tie.Need-buffer-requires Inv-loop μ-loop
 buffer-requires c κs = search needs
@@ -41,13 +42,13 @@ take-all-requires : tie.Need-take-all-requires Inv-loop μ-loop
 take-all-requires c κs = search needs
 
 add-turn : tie.Need-add-turn Inv-loop μ-loop
-add-turn c = search needs
+add-turn c = omega arith
 
 loop-less : tie.Need-loop-less Inv-loop μ-loop
-loop-less c = search needs
+loop-less c = omega arith
 
 loop-again : tie.Need-loop-again Inv-loop μ-loop
-loop-again c = search needs
+loop-again c = omega arith
 
 end-input-requires : tie.Need-end-input-requires Inv-loop μ-loop
 end-input-requires c κs = search needs

@@ -1,5 +1,6 @@
 -- `checked::lines::repeat_bytes` is safe and ends: the index goes up to the end.
 use Prim.Native.Nat.{_≤_, _-_}
+use native.Mathlib.Omega.{arith}
 use borrow.Author.Needs.{needs}
 use Rattle.checked.proofs.lines.repeat_bytes.Statement.{statement}
 use Rattle.checked.proofs.lines.repeat_bytes.Tie as tie
@@ -20,25 +21,25 @@ returns-2 : tie.Need-returns-2 Inv-loop μ-loop
 returns-2 c = search needs
 
 loop-holds : tie.Need-loop-holds Inv-loop μ-loop
-loop-holds c = search needs
+loop-holds c = omega arith
 
 sub-bytes : tie.Need-sub-bytes Inv-loop μ-loop
-sub-bytes c = search needs
+sub-bytes c = omega arith
 
 element-copy-out-bytes : tie.Need-element-copy-out-bytes Inv-loop μ-loop
-element-copy-out-bytes c = search needs
+element-copy-out-bytes c = omega arith
 
 element-write-bytes : tie.Need-element-write-bytes Inv-loop μ-loop
-element-write-bytes c = search needs
+element-write-bytes c = omega arith
 
 add-i : tie.Need-add-i Inv-loop μ-loop
-add-i c = search needs
+add-i c = omega arith
 
 loop-less : tie.Need-loop-less Inv-loop μ-loop
-loop-less c = search needs
+loop-less c = omega arith
 
 loop-again : tie.Need-loop-again Inv-loop μ-loop
-loop-again c = search needs
+loop-again c = omega arith
 
 returns-3 : tie.Need-returns-3 Inv-loop μ-loop
 returns-3 c = search needs

@@ -1,6 +1,7 @@
 -- `checked::tables::bounds_of` is safe and ends: each turn passes a row of three.
 use Prim.Native.Nat.{_≤_, _-_}
 use lib.ListN.{length}
+use native.Mathlib.Omega.{arith}
 use borrow.Author.Needs.{needs}
 use Rattle.checked.proofs.tables.bounds_of.Statement.{statement}
 use Rattle.checked.proofs.tables.bounds_of.Tie as tie
@@ -12,52 +13,52 @@ abbrev μ-loop : tie.MeasureT-loop
 μ-loop sections functions base a at₀ start₀ size₀ known₀ at start size known = length functions - at
 
 loop-holds : tie.Need-loop-holds Inv-loop μ-loop
-loop-holds c = search needs
+loop-holds c = omega arith
 
 sub-loop : tie.Need-sub-loop Inv-loop μ-loop
-sub-loop c = search needs
+sub-loop c = omega arith
 
 mul-if1 : tie.Need-mul-if1 Inv-loop μ-loop
-mul-if1 c = search needs
+mul-if1 c = omega arith
 
 shared-slice-read-if1 : tie.Need-shared-slice-read-if1 Inv-loop μ-loop
-shared-slice-read-if1 c = search needs
+shared-slice-read-if1 c = omega arith
 
 mul-start : tie.Need-mul-start Inv-loop μ-loop
-mul-start c = search needs
+mul-start c = omega arith
 
 shared-slice-read-start : tie.Need-shared-slice-read-start Inv-loop μ-loop
-shared-slice-read-start c = search needs
+shared-slice-read-start c = omega arith
 
 add-wide : tie.Need-add-wide Inv-loop μ-loop
-add-wide c = search needs
+add-wide c = omega arith
 
 mul-wide : tie.Need-mul-wide Inv-loop μ-loop
-mul-wide c = search needs
+mul-wide c = omega arith
 
 shared-slice-read-wide : tie.Need-shared-slice-read-wide Inv-loop μ-loop
-shared-slice-read-wide c = search needs
+shared-slice-read-wide c = omega arith
 
 wide-requires : tie.Need-wide-requires Inv-loop μ-loop
 wide-requires c κs = search needs
 
 add-known : tie.Need-add-known Inv-loop μ-loop
-add-known c = search needs
+add-known c = omega arith
 
 mul-known : tie.Need-mul-known Inv-loop μ-loop
-mul-known c = search needs
+mul-known c = omega arith
 
 shared-slice-read-known : tie.Need-shared-slice-read-known Inv-loop μ-loop
-shared-slice-read-known c = search needs
+shared-slice-read-known c = omega arith
 
 add-at : tie.Need-add-at Inv-loop μ-loop
-add-at c = search needs
+add-at c = omega arith
 
 loop-less : tie.Need-loop-less Inv-loop μ-loop
-loop-less c = search needs
+loop-less c = omega arith
 
 loop-again : tie.Need-loop-again Inv-loop μ-loop
-loop-again c = search needs
+loop-again c = omega arith
 
 locate-requires : tie.Need-locate-requires Inv-loop μ-loop
 locate-requires c κs = search needs

@@ -1,6 +1,7 @@
 -- `checked::tables::print_tables` is safe and ends: each turn passes a row of six.
 use Prim.Native.Nat.{_≤_, _-_}
 use lib.ListN.{length}
+use native.Mathlib.Omega.{arith}
 use borrow.Author.Needs.{needs}
 use Rattle.checked.proofs.tables.print_tables.Statement.{statement}
 use Rattle.checked.proofs.tables.print_tables.Tie as tie
@@ -15,52 +16,52 @@ code-section-requires : tie.Need-code-section-requires Inv-loop μ-loop
 code-section-requires c κs = search needs
 
 loop-holds : tie.Need-loop-holds Inv-loop μ-loop
-loop-holds c = search needs
+loop-holds c = omega arith
 
 sub-loop : tie.Need-sub-loop Inv-loop μ-loop
-sub-loop c = search needs
+sub-loop c = omega arith
 
 mul-t10 : tie.Need-mul-t10 Inv-loop μ-loop
-mul-t10 c = search needs
+mul-t10 c = omega arith
 
 shared-slice-read-t14 : tie.Need-shared-slice-read-t14 Inv-loop μ-loop
-shared-slice-read-t14 c = search needs
+shared-slice-read-t14 c = omega arith
 
 add-t11 : tie.Need-add-t11 Inv-loop μ-loop
-add-t11 c = search needs
+add-t11 c = omega arith
 
 mul-t15 : tie.Need-mul-t15 Inv-loop μ-loop
-mul-t15 c = search needs
+mul-t15 c = omega arith
 
 shared-slice-read-t17 : tie.Need-shared-slice-read-t17 Inv-loop μ-loop
-shared-slice-read-t17 c = search needs
+shared-slice-read-t17 c = omega arith
 
 add-t18 : tie.Need-add-t18 Inv-loop μ-loop
-add-t18 c = search needs
+add-t18 c = omega arith
 
 mul-t19 : tie.Need-mul-t19 Inv-loop μ-loop
-mul-t19 c = search needs
+mul-t19 c = omega arith
 
 shared-slice-read-t21 : tie.Need-shared-slice-read-t21 Inv-loop μ-loop
-shared-slice-read-t21 c = search needs
+shared-slice-read-t21 c = omega arith
 
 add-t22 : tie.Need-add-t22 Inv-loop μ-loop
-add-t22 c = search needs
+add-t22 c = omega arith
 
 mul-t23 : tie.Need-mul-t23 Inv-loop μ-loop
-mul-t23 c = search needs
+mul-t23 c = omega arith
 
 shared-slice-read-t25 : tie.Need-shared-slice-read-t25 Inv-loop μ-loop
-shared-slice-read-t25 c = search needs
+shared-slice-read-t25 c = omega arith
 
 add-t26 : tie.Need-add-t26 Inv-loop μ-loop
-add-t26 c = search needs
+add-t26 c = omega arith
 
 mul-t27 : tie.Need-mul-t27 Inv-loop μ-loop
-mul-t27 c = search needs
+mul-t27 c = omega arith
 
 shared-slice-read-t29 : tie.Need-shared-slice-read-t29 Inv-loop μ-loop
-shared-slice-read-t29 c = search needs
+shared-slice-read-t29 c = omega arith
 
 print-outcome-requires : tie.Need-print-outcome-requires Inv-loop μ-loop
 print-outcome-requires c κs = search needs
@@ -69,13 +70,13 @@ wrapping-add-u32-requires : tie.Need-wrapping-add-u32-requires Inv-loop μ-loop
 wrapping-add-u32-requires c κs = search needs
 
 add-at : tie.Need-add-at Inv-loop μ-loop
-add-at c = search needs
+add-at c = omega arith
 
 loop-less : tie.Need-loop-less Inv-loop μ-loop
-loop-less c = search needs
+loop-less c = omega arith
 
 loop-again : tie.Need-loop-again Inv-loop μ-loop
-loop-again c = search needs
+loop-again c = omega arith
 
 returns : tie.Need-returns Inv-loop μ-loop
 returns c = search needs
