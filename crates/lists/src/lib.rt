@@ -296,7 +296,7 @@ fn is_within(x: u64, low: u64, high: u64) -> bool
 }
 
 // Whether one of the first n elements is from low to high.
-fn any_within(xs: &[u64], n: usize, low: u64, high: u64) -> bool
+pub fn any_within(xs: &[u64], n: usize, low: u64, high: u64) -> bool
     requires { ⌜ n ≤ length (now xs) ⌝ }
     ensures { λ r. ⌜ r ≡ any (λ x. leb low x && leb x high) (take n (now (xs .entry))) ⌝ }
 {

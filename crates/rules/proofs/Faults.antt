@@ -28,40 +28,40 @@ use Rattle.rules.specs.Map.{Capacity, Round, round}
 abbrev pub Number : ℕ → Type 0
 Number n = (4 ≤ n) × (n ≤ 17)
 
-abbrev Met : {A : Type 0} → Answer A → Type 0
+abbrev pub Met : {A : Type 0} → Answer A → Type 0
 Met a = Fails Number a
 
 four : {A : Type 0} → Met {A = A} (fault 4)
 four = number (lit≤ tt, lit≤ tt)
 
-limited-met : {A : Type 0} (n : ℕ) (l : List A) → Met (limited n l)
+pub limited-met : {A : Type 0} (n : ℕ) (l : List A) → Met (limited n l)
 unfolding limited
 limited-met n l = if-fails (λ _. result) (λ _. four)
 
 -- ---- a function's lists
 
 module _ (s : Slices) where
-  set-block-met : (b e : ℕ) → Met (Lists.set-block b e s)
+  pub set-block-met : (b e : ℕ) → Met (Lists.set-block b e s)
   unfolding Lists.set-block
   set-block-met b e = bind-fails (limited-met _ _) (λ _. result)
 
-  add-block-start-met : (k : ℕ) → Met (Lists.add-block-start k s)
+  pub add-block-start-met : (k : ℕ) → Met (Lists.add-block-start k s)
   unfolding Lists.add-block-start
   add-block-start-met k = bind-fails (limited-met _ _) (λ _. result)
 
-  set-ways-met : (k : ℕ) (l : List ℕ) → Met (Lists.set-ways k l s)
+  pub set-ways-met : (k : ℕ) (l : List ℕ) → Met (Lists.set-ways k l s)
   unfolding Lists.set-ways
   set-ways-met k l = bind-fails (if-fails (λ _. result) (λ _. four)) (λ _. result)
 
-  add-reference-met : (k : ℕ) → Met (Lists.add-reference k s)
+  pub add-reference-met : (k : ℕ) → Met (Lists.add-reference k s)
   unfolding Lists.add-reference
   add-reference-met k = bind-fails (limited-met _ _) (λ _. result)
 
-  set-table-met : (k n : ℕ) → Met (Lists.set-table k n s)
+  pub set-table-met : (k n : ℕ) → Met (Lists.set-table k n s)
   unfolding Lists.set-table
   set-table-met k n = bind-fails (limited-met _ _) (λ _. result)
 
-  add-possible-met : (k : ℕ) → Met (Lists.add-possible k s)
+  pub add-possible-met : (k : ℕ) → Met (Lists.add-possible k s)
   unfolding Lists.add-possible
   add-possible-met k = bind-fails (limited-met _ _) (λ _. result)
 

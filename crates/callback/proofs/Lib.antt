@@ -1,0 +1,4 @@
+pub mod Places
+pub mod JumpCases
+pub mod TableCases
+pub mod BranchCases

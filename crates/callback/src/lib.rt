@@ -1,0 +1,8 @@
+// One word of a walk (FunctionSlices::instruction_callback).
+pub mod around;
+
+pub mod jumps;
+
+pub mod tables;
+
+pub mod branches;

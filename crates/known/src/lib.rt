@@ -1,0 +1,46 @@
+// The known functions in a lent slice of 2,048 numbers: n entries, ascending, from its beginning, and their ends from its middle; an
+// end that is not known is 0.
+ghost use mathlib.Core.Path.{_≡_};
+ghost use mathlib.Core.List.{List};
+ghost use Rattle.rules.specs.Ordered.{has};
+ghost use Rattle.rules.specs.Known as rules;
+ghost use Rattle.known.specs.Table.{Kept, Knows};
+
+// Whether a function is known to begin at addr.
+pub fn has_entry(known: &[u64], n: usize, addr: u64) -> bool
+    requires { ⌜ Kept n (now known) ⌝ }
+    ensures { λ r. ⌜ ((es : List rules.Entry) → Knows n (now (known .entry)) es → r ≡ has rules.entryOf addr es) ⌝ }
+{
+    let a: usize = 0;
+    let b: usize = 1024;
+    let c: usize = 2048;
+    blocks::has_start(&known[a..b], &known[b..c], n, addr)
+}
+
+// The known function at or around addr; 0 for none.
+pub fn covering(known: &[u64], n: usize, addr: u64) -> u64
+    requires { ⌜ Kept n (now known) ⌝ }
+    ensures { λ r. ⌜ ((es : List rules.Entry) → Knows n (now (known .entry)) es → r ≡ rules.covering addr es) ⌝ }
+{
+    if has_entry(known, n, addr) {
+        return addr;
+    }
+    let a: usize = 0;
+    let b: usize = 1024;
+    let c: usize = 2048;
+    let f = blocks::lower(&known[a..b], &known[b..c], n, addr);
+    if addr < f.end {
+        return f.start;
+    }
+    0
+}
+
+// Whether a function is known to begin from low up to high.
+pub fn any_between(known: &[u64], n: usize, low: u64, high: u64) -> bool
+    requires { ⌜ Kept n (now known) ⌝ }
+    ensures { λ r. ⌜ ((es : List rules.Entry) → Knows n (now (known .entry)) es → r ≡ rules.any-between low high es) ⌝ }
+{
+    let a: usize = 0;
+    let b: usize = 1024;
+    lists::any_within(&known[a..b], n, low, high)
+}

@@ -1,0 +1,62 @@
+use native.Mathlib.Omega.{arith}
+use Rattle.sequences.proofs.Scan.{Scanning, scan-first, scan-none, scan-past, scan-found, scan-on}
+use borrow.Author.Needs.{needs}
+use Rattle.sequences.proofs.any_terminator.Statement.{statement}
+use Rattle.sequences.proofs.any_terminator.Tie as tie
+
+abbrev Inv-loop : tie.InvT-loop
+Inv-loop words from n at₀ left₀ at left = Scanning words from n at left
+
+abbrev μ-loop : tie.MeasureT-loop
+μ-loop words from n at₀ left₀ at left = left
+
+loop-holds : tie.Need-loop-holds Inv-loop μ-loop
+loop-holds c = scan-first _ _ _ (c .before .pre)
+
+add-if1 : tie.Need-add-if1 Inv-loop μ-loop
+add-if1 c = search needs
+
+returns : tie.Need-returns Inv-loop μ-loop
+returns c = scan-past _ _ _ _ _ (c .before .before .loop .inv) (c .if1 .taken)
+
+word-at-requires : tie.Need-word-at-requires Inv-loop μ-loop
+word-at-requires c κs = search needs
+
+is-function-terminator-requires : tie.Need-is-function-terminator-requires Inv-loop μ-loop
+is-function-terminator-requires c κs = search needs
+
+returns-2 : tie.Need-returns-2 Inv-loop μ-loop
+returns-2 c = scan-found _ _ _ _ _ (c .before .before .before .before .before .loop .inv) _ (c .before .before .word-at .ensures) (c .before .before .before .before .loop-test .taken) _ (c .before .is-function-terminator .ensures) (c .if2 .taken)
+
+add-at : tie.Need-add-at Inv-loop μ-loop
+add-at c = search needs
+
+sub-left : tie.Need-sub-left Inv-loop μ-loop
+sub-left c = search needs
+
+loop-less : tie.Need-loop-less Inv-loop μ-loop
+loop-less c = omega arith
+
+loop-again : tie.Need-loop-again Inv-loop μ-loop
+loop-again c = scan-on _ _ _ _ _ (c .before .before .before .before .before .loop .inv) _ (c .before .before .word-at .ensures) (c .before .before .before .before .loop-test .taken) _ (c .before .before .before .if1 .left) (c .before .is-function-terminator .ensures) (c .if2 .left)
+
+returns-3 : tie.Need-returns-3 Inv-loop μ-loop
+returns-3 c = scan-none _ _ _ _ _ (c .before .loop .inv) (c .loop-test .left)
+
+pub any-terminator-spec : {M : Type 1} → statement M
+any-terminator-spec =
+    tie.close
+    (tie.spec
+    Inv-loop
+    μ-loop
+    loop-holds
+    add-if1
+    returns
+    word-at-requires
+    is-function-terminator-requires
+    returns-2
+    add-at
+    sub-left
+    loop-less
+    loop-again
+    returns-3)

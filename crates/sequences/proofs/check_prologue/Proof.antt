@@ -1,0 +1,33 @@
+use Rattle.sequences.proofs.Notes.{load-met, prologue-met, no-prologue}
+use borrow.Author.Needs.{needs}
+use Rattle.sequences.proofs.check_prologue.Statement.{statement}
+use Rattle.sequences.proofs.check_prologue.Tie as tie
+
+is-lwz-requires : tie.Need-is-lwz-requires
+is-lwz-requires c κs = search needs
+
+returns : tie.Need-returns
+returns c = load-met _ _ _ _ (c .before .before .before .pre .1) _ _ (c .before .is-lwz .ensures) (c .if1 .taken)
+
+check-prologue-sequence-requires : tie.Need-check-prologue-sequence-requires
+check-prologue-sequence-requires c κs = search needs
+
+meet-prologue-requires : tie.Need-meet-prologue-requires
+meet-prologue-requires c κs = search needs
+
+returns-2 : tie.Need-returns-2
+returns-2 c = prologue-met _ _ _ _ (c .before .before .before .before .before .before .pre .1) _ _ (c .before .before .before .before .is-lwz .ensures) _ _ (c .before .before .before .if1 .left) (c .before .before .before .before .before .before .pre .2) (c .before .before .check-prologue-sequence .ensures) _ (c .before .if2 .taken) (c .meet-prologue .ensures)
+
+returns-3 : tie.Need-returns-3
+returns-3 c = no-prologue _ _ _ _ (c .before .before .before .before .before .pre .1) _ _ (c .before .before .before .is-lwz .ensures) _ _ (c .before .before .if1 .left) (c .before .before .before .before .before .pre .2) (c .before .check-prologue-sequence .ensures) (c .if2 .left)
+
+pub check-prologue-spec : {M : Type 1} → statement M
+check-prologue-spec =
+    tie.close
+    (tie.spec
+    is-lwz-requires
+    returns
+    check-prologue-sequence-requires
+    meet-prologue-requires
+    returns-2
+    returns-3)

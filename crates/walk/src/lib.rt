@@ -1,0 +1,196 @@
+// The state of a walk: a function's lists in two lent slices with what is pending, and where the walk is.
+ghost use mathlib.Core.Path.{_≡_};
+ghost use mathlib.Core.List.{[], _∷_};
+ghost use Prim.Native.Nat.{ℕ, _<_, _≤_};
+ghost use mathlib.Core.Bool.{Bool};
+ghost use lib.ListN.{length, take};
+ghost use Rattle.rules.specs.Choice.{ok};
+ghost use Rattle.rules.specs.Slices as lists;
+ghost use Rattle.rules.specs.Step as rules;
+ghost use Rattle.walk.specs.State.{walk-of, with-small, with-place, faulting, Going, Is, Low};
+
+// Where a walk is: between two blocks, before a word, or at its end since it met no function.
+pub const IDLE: u32 = 0;
+
+pub const AT: u32 = 1;
+
+pub const NOWHERE: u32 = 2;
+
+// What is no list: the counts, how many addresses are pending, whether this pass visited a new word, and the place. Before a word,
+// `at` is its address and `block` the start of its block.
+pub struct Walk {
+    pub small: lists::Small,
+    pub pending: usize,
+    pub fresh: bool,
+    pub place: u32,
+    pub at: u64,
+    pub block: u64,
+}
+
+// The walk with other counts.
+pub fn with_small(w: Walk, s: lists::Small) -> Walk
+    ensures { λ r. ⌜ r ≡ with-small w s ⌝ }
+{
+    let mut r = w;
+    r.small = s;
+    r
+}
+
+// The walk goes on at a word of a block.
+pub fn go_to(w: Walk, addr: u64, block: u64) -> Walk
+    ensures { λ r. ⌜ r ≡ with-place w 1 addr block ⌝ }
+{
+    let mut r = w;
+    r.place = AT;
+    r.at = addr;
+    r.block = block;
+    r
+}
+
+// The walk met no function.
+pub fn met_nothing(w: Walk) -> Walk
+    ensures { λ r. ⌜ r ≡ with-place w 2 (w .at) (w .block) ⌝ }
+{
+    let mut r = w;
+    r.place = NOWHERE;
+    r
+}
+
+// The walk met a fault.
+pub fn with_fault(w: Walk, n: u32) -> Walk
+    ensures { λ r. ⌜ r ≡ with-small w (faulting (w .small) n) ⌝ }
+{
+    let mut s = w.small;
+    s.fault = n;
+    with_small(w, s)
+}
+
+// Sets the ways on from a word to the first m targets.
+pub fn set_ways(
+    k: &mut [u64],
+    v: &mut [u64],
+    w: Walk,
+    from: u64,
+    targets: &[u64],
+    m: usize,
+) -> Walk
+    requires going { ⌜ Going (now k) (now v) w ⌝ }
+    requires some { ⌜ (0 < m) × (m ≤ length (now targets)) ⌝ }
+    ensures { λ r. ⌜ ((vis : ℕ → Bool) → Is (rules.on-slices (lists.set-ways from (take m (now (targets .entry)))) (walk-of vis (now (k .entry)) (now (v .entry)) w)) vis (now (k .exit)) (now (v .exit)) r) ⌝ }
+{
+    let s = lists::set_ways(k, v, w.small, from, targets, m);
+    with_small(w, s)
+}
+
+// Sets the one way on from a word.
+pub fn set_way(k: &mut [u64], v: &mut [u64], w: Walk, from: u64, to: u64) -> Walk
+    requires { ⌜ Going (now k) (now v) w ⌝ }
+    ensures { λ r. ⌜ ((vis : ℕ → Bool) → Is (rules.on-slices (lists.set-ways from (to ∷ [])) (walk-of vis (now (k .entry)) (now (v .entry)) w)) vis (now (k .exit)) (now (v .exit)) r) ⌝ }
+{
+    let targets: [u64; 1] = [to];
+    let s = lists::set_ways(k, v, w.small, from, &targets, 1);
+    with_small(w, s)
+}
+
+// Adds a function that is referred to.
+pub fn add_reference(k: &mut [u64], v: &mut [u64], w: Walk, addr: u64) -> Walk
+    requires { ⌜ Going (now k) (now v) w ⌝ }
+    ensures { λ r. ⌜ ((vis : ℕ → Bool) → Is (rules.on-slices (lists.add-reference addr) (walk-of vis (now (k .entry)) (now (v .entry)) w)) vis (now (k .exit)) (now (v .exit)) r) ⌝ }
+{
+    let s = lists::add_reference(k, v, w.small, addr);
+    with_small(w, s)
+}
+
+// Adds a block that may be the function's.
+pub fn add_possible(k: &mut [u64], v: &mut [u64], w: Walk, addr: u64) -> Walk
+    requires { ⌜ Going (now k) (now v) w ⌝ }
+    ensures { λ r. ⌜ ((vis : ℕ → Bool) → Is (rules.on-slices (lists.add-possible addr) (walk-of vis (now (k .entry)) (now (v .entry)) w)) vis (now (k .exit)) (now (v .exit)) r) ⌝ }
+{
+    let s = lists::add_possible(k, v, w.small, addr);
+    with_small(w, s)
+}
+
+// Sets the size of a jump table.
+pub fn set_table(k: &mut [u64], v: &mut [u64], w: Walk, addr: u64, size: u64) -> Walk
+    requires { ⌜ Going (now k) (now v) w ⌝ }
+    ensures { λ r. ⌜ ((vis : ℕ → Bool) → Is (rules.on-slices (lists.set-table addr size) (walk-of vis (now (k .entry)) (now (v .entry)) w)) vis (now (k .exit)) (now (v .exit)) r) ⌝ }
+{
+    let s = lists::set_table(k, v, w.small, addr, size);
+    with_small(w, s)
+}
+
+// The block ends behind the word at addr.
+pub fn end_block(k: &mut [u64], v: &mut [u64], w: Walk, addr: u64, block: u64) -> Walk
+    requires going { ⌜ Going (now k) (now v) w ⌝ }
+    requires low { ⌜ Low addr ⌝ }
+    ensures { λ r. ⌜ ((vis : ℕ → Bool) → Is (rules.end-block addr block (walk-of vis (now (k .entry)) (now (v .entry)) w)) vis (now (k .exit)) (now (v .exit)) r) ⌝ }
+{
+    let s = lists::set_block(k, v, w.small, block, addr + 4);
+    let mut r = w;
+    r.small = s;
+    r.place = IDLE;
+    r
+}
+
+// An address is to be walked.
+pub fn push(k: &mut [u64], v: &[u64], w: Walk, addr: u64) -> Walk
+    requires { ⌜ Going (now k) (now v) w ⌝ }
+    ensures { λ r. ⌜ ((vis : ℕ → Bool) → Is (rules.push addr (walk-of vis (now (k .entry)) (now (v .entry)) w)) vis (now (k .exit)) (now (v .entry)) r) ⌝ }
+{
+    let p = executor::push(k, w.pending, addr);
+    let mut s = w.small;
+    s.fault = p.fault;
+    let mut r = w;
+    r.small = s;
+    r.pending = p.count;
+    r
+}
+
+// A new block start is to be walked.
+pub fn mark_and_push(k: &mut [u64], v: &mut [u64], w: Walk, addr: u64) -> Walk
+    requires { ⌜ Going (now k) (now v) w ⌝ }
+    ensures { λ r. ⌜ ((vis : ℕ → Bool) → Is (rules.mark-and-push addr (walk-of vis (now (k .entry)) (now (v .entry)) w)) vis (now (k .exit)) (now (v .exit)) r) ⌝ }
+{
+    let m = lists::add_block_start(k, v, w.small, addr);
+    let t = with_small(w, m.small);
+    if m.new {
+        return push(k, v, t, addr);
+    }
+    t
+}
+
+// Each of the first m targets is a block start.
+pub fn mark_and_push_all(k: &mut [u64], v: &mut [u64], w: Walk, targets: &[u64], m: usize) -> Walk
+    requires going { ⌜ Going (now k) (now v) w ⌝ }
+    requires inside { ⌜ m ≤ length (now targets) ⌝ }
+    ensures { λ r. ⌜ ((vis : ℕ → Bool) → Is (rules.mark-and-push-all (take m (now (targets .entry))) (walk-of vis (now (k .entry)) (now (v .entry)) w)) vis (now (k .exit)) (now (v .exit)) r) ⌝ }
+{
+    let mut r = w;
+    let mut i: usize = 0;
+    while i < m {
+        r = mark_and_push(k, v, r, targets[i]);
+        if r.small.fault != 0 {
+            return r;
+        }
+        i += 1;
+    }
+    r
+}
+
+// Each of the first m targets may be a block of the function.
+pub fn add_all_possible(k: &mut [u64], v: &mut [u64], w: Walk, targets: &[u64], m: usize) -> Walk
+    requires going { ⌜ Going (now k) (now v) w ⌝ }
+    requires inside { ⌜ m ≤ length (now targets) ⌝ }
+    ensures { λ r. ⌜ ((vis : ℕ → Bool) → Is (rules.on-slices (lists.add-all-possible (take m (now (targets .entry)))) (walk-of vis (now (k .entry)) (now (v .entry)) w)) vis (now (k .exit)) (now (v .exit)) r) ⌝ }
+{
+    let mut r = w;
+    let mut i: usize = 0;
+    while i < m {
+        r = add_possible(k, v, r, targets[i]);
+        if r.small.fault != 0 {
+            return r;
+        }
+        i += 1;
+    }
+    r
+}
