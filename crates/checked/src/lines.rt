@@ -1,0 +1,332 @@
+// The lines of an image, a byte at a time: numbers are put at the end of its lists, and the line `=` has it answered.
+use crate::tables::print_parts;
+
+// Where the next byte stands: at a line's start, among the line's numbers, in the count behind `*`, in a remark, behind `=`, or in
+// a line that is not of the format.
+const START: u32 = 0;
+
+const AMONG: u32 = 1;
+
+const COUNT: u32 = 2;
+
+const REMARK: u32 = 3;
+
+const ENDED: u32 = 4;
+
+const WRONG: u32 = 5;
+
+// The list of bytes; the others, of numbers, come before it.
+const BYTES: usize = 6;
+
+// Room for 65,537 outcomes, the longest symbol lists that can be told from too long ones, and the rest.
+pub type Numbers = [u32; 400000];
+
+// Room for a code section of 65,537 words, and for tables.
+pub type Bytes = [u8; 300000];
+
+// What was read of an image. The lists of numbers lie one after the other in one array: list i from `from[i]` up to `to[i]`.
+pub struct State {
+    place: u32,
+    // the line's list, and where the line's numbers begin in its array
+    list: usize,
+    line: usize,
+    // the number or count that is read, and how many digits it has so far
+    value: u32,
+    digits: u32,
+    // how many numbers and how many bytes there are
+    numbers: usize,
+    bytes: usize,
+    // whether anything of the image was read, a line was not of the format, an array was too short
+    open: bool,
+    bad: bool,
+    full: bool,
+    from: [usize; 8],
+    to: [usize; 8],
+}
+
+pub fn fresh() -> State {
+    State {
+        place: START,
+        list: 0,
+        line: 0,
+        value: 0,
+        digits: 0,
+        numbers: 0,
+        bytes: 0,
+        open: false,
+        bad: false,
+        full: false,
+        from: [0; 8],
+        to: [0; 8],
+    }
+}
+
+fn at(s: State, place: u32) -> State {
+    let mut r = s;
+    r.place = place;
+    r.value = 0;
+    r.digits = 0;
+    r
+}
+
+// The rest of the line is passed over.
+fn wrong(s: State) -> State {
+    let mut r = at(s, WRONG);
+    r.bad = true;
+    r
+}
+
+// A digit's value; 16 for what is no digit.
+fn value_of(b: u8) -> u32 {
+    if b >= b'0' && b <= b'9' {
+        return (b - b'0') as u32;
+    }
+    if b >= b'a' && b <= b'f' {
+        return (b - b'a') as u32 + 10;
+    }
+    16
+}
+
+// The list that a letter names; 7 for none.
+fn list_of(b: u8) -> usize {
+    match b {
+        b's' => 0,
+        b'o' => 1,
+        b'f' => 2,
+        b'j' => 3,
+        b'k' => 4,
+        b'e' => 5,
+        b'b' => BYTES,
+        _ => 7,
+    }
+}
+
+// A line of a list begins. The lines of a list of numbers stand together, so one that has numbers is not begun again.
+fn begin_list(s: State, list: usize) -> State {
+    let mut r = at(s, AMONG);
+    r.line = r.numbers;
+    if list == r.list {
+        return r;
+    }
+    if list < 7 {
+        if r.from[list] < r.to[list] {
+            return wrong(r);
+        }
+        r.from[list] = r.numbers;
+        r.list = list;
+        return r;
+    }
+    wrong(r)
+}
+
+// The first byte of a line.
+fn begin_line(s: State, b: u8) -> State {
+    let mut r = s;
+    r.open = true;
+    if b == b'#' {
+        return at(r, REMARK);
+    }
+    if b == b'=' {
+        return at(r, ENDED);
+    }
+    r = begin_list(r, list_of(b));
+    if r.list == BYTES {
+        r.line = r.bytes;
+    }
+    r
+}
+
+fn put_byte(bytes: &mut Bytes, s: State, v: u32) -> State {
+    let n = s.bytes;
+    let mut r = at(s, AMONG);
+    if n < 300000 {
+        bytes[n] = (v % 256) as u8;
+        r.bytes = n + 1;
+        return r;
+    }
+    r.full = true;
+    r
+}
+
+// A digit of a number or count, which have up to eight, or of a byte, which has two.
+fn take_digit(bytes: &mut Bytes, s: State, d: u32) -> State {
+    let n = s.digits;
+    if n < 8 {
+        let v = s.value % 0x1000_0000 * 16 + d % 16;
+        if n == 1 && s.list == BYTES && s.place == AMONG {
+            return put_byte(bytes, s, v);
+        }
+        let mut r = s;
+        r.value = v;
+        r.digits = n + 1;
+        return r;
+    }
+    wrong(s)
+}
+
+// The number that was read, if there is one, is put into its list. Half a byte is none.
+fn put_number(numbers: &mut Numbers, s: State) -> State {
+    if s.digits == 0 {
+        return s;
+    }
+    if s.list == BYTES {
+        return wrong(s);
+    }
+    let n = s.numbers;
+    let mut r = at(s, AMONG);
+    if n < 400000 {
+        numbers[n] = s.value;
+        r.numbers = n + 1;
+        return r;
+    }
+    r.full = true;
+    r
+}
+
+// What stands between the numbers of a line, or before its count.
+fn take_mark(numbers: &mut Numbers, s: State, b: u8) -> State {
+    if s.place == AMONG {
+        if b == b' ' {
+            return put_number(numbers, s);
+        }
+        if b == b'*' {
+            return at(put_number(numbers, s), COUNT);
+        }
+    }
+    wrong(s)
+}
+
+// How many numbers there are once those from `line` up to `n` come `count` times; 2^40, which is more than there is room for, where
+// that is too many to tell.
+fn end_of(line: usize, n: usize, count: u32) -> usize {
+    if line <= n {
+        if n <= 400000 {
+            return line + (n - line) * count as usize;
+        }
+    }
+    0x100_0000_0000
+}
+
+// The line's numbers come as often as its count says: how many there are then. Where there is no room for them none is put.
+fn repeat_numbers(numbers: &mut Numbers, line: usize, n: usize, count: u32) -> usize {
+    let end = end_of(line, n, count);
+    if n < line {
+        return end;
+    }
+    if 400000 < end {
+        return end;
+    }
+    let width = n - line;
+    let mut i = n;
+    while i < end {
+        numbers[i] = numbers[i - width];
+        i += 1;
+    }
+    end
+}
+
+fn repeat_bytes(bytes: &mut Bytes, line: usize, n: usize, count: u32) -> usize {
+    let end = end_of(line, n, count);
+    if n < line {
+        return end;
+    }
+    if 300000 < end {
+        return end;
+    }
+    let width = n - line;
+    let mut i = n;
+    while i < end {
+        bytes[i] = bytes[i - width];
+        i += 1;
+    }
+    end
+}
+
+// A line ends with a count.
+fn end_count(numbers: &mut Numbers, bytes: &mut Bytes, s: State) -> State {
+    if s.digits == 0 {
+        return wrong(s);
+    }
+    let mut r = s;
+    if s.list == BYTES {
+        r.bytes = repeat_bytes(bytes, s.line, s.bytes, s.value);
+        r.full = s.full | (300000 < r.bytes);
+        return r;
+    }
+    r.numbers = repeat_numbers(numbers, s.line, s.numbers, s.value);
+    r.full = s.full | (400000 < r.numbers);
+    r
+}
+
+// The image is whole: it is answered. A line that is not of the format comes before too little room.
+fn answer(numbers: &mut Numbers, bytes: &mut Bytes, s: State) {
+    if s.bad {
+        io::write_all(1, b"?\n");
+        return;
+    }
+    if s.full {
+        io::write_all(1, b"!\n");
+        return;
+    }
+    let from = s.from;
+    let to = s.to;
+    print_parts(numbers, bytes, s.bytes, from, to);
+}
+
+// A line of a list ends, which reaches as far as there are numbers.
+fn end_list(s: State) -> State {
+    let mut r = at(s, START);
+    let list = r.list;
+    if list < 7 {
+        r.to[list] = r.numbers;
+    }
+    r
+}
+
+// A line ends. An empty one is not of the format.
+fn end_line(numbers: &mut Numbers, bytes: &mut Bytes, s: State) -> State {
+    let place = s.place;
+    if place == ENDED {
+        answer(numbers, bytes, s);
+        io::write_all(1, b"=\n");
+        return fresh();
+    }
+    if place == AMONG {
+        return end_list(put_number(numbers, s));
+    }
+    if place == COUNT {
+        return end_list(end_count(numbers, bytes, s));
+    }
+    let mut r = at(s, START);
+    r.open = true;
+    r.bad = s.bad | (place == START);
+    r
+}
+
+// A byte of the input.
+pub fn take(numbers: &mut Numbers, bytes: &mut Bytes, s: State, b: u8) -> State {
+    if b == b'\n' {
+        return end_line(numbers, bytes, s);
+    }
+    if s.place == START {
+        return begin_line(s, b);
+    }
+    if s.place == REMARK {
+        return s;
+    }
+    if s.place == AMONG || s.place == COUNT {
+        let d = value_of(b);
+        if d < 16 {
+            return take_digit(bytes, s, d);
+        }
+        return take_mark(numbers, s, b);
+    }
+    wrong(s)
+}
+
+// The input ends. An image that no line `=` ended gets no other answer.
+pub fn end_input(s: State) {
+    if s.open {
+        io::write_all(1, b"?\n=\n");
+    }
+}
