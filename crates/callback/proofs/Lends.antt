@@ -172,6 +172,13 @@ module _ (s b f x n : List ℕ) (a : Around) (e : steps.Around) (o : Of s b f x 
   pub few : Few s
   few = rw (← o .sections) (few-sections (o .lent) (o .checked))
 
+  -- there are at most 8 sections
+  pub sections-few : length (image (o .lent) .sections) ≤ 8
+  unfolding image-of lents.given
+  sections-few =
+      let r : List SectionRow = rows 4 section-row (o .lent .sections) in
+      omega (arith, sections-count r (o .lent .bytes), rows-length 4 (omega arith) section-row (o .lent .sections), few-sections (o .lent) (o .checked) .few)
+
   pub image-passed : check-image (lents.given (o .lent)) ≡ true
   image-passed = passed (o .lent) (o .checked) .image
 

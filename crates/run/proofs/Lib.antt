@@ -1,0 +1,3 @@
+pub mod StepCases
+pub mod Ready
+pub mod RunCases
