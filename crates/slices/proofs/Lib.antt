@@ -1,0 +1,2 @@
+pub mod PassCases
+pub mod Loops
