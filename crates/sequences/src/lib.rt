@@ -22,7 +22,7 @@ fn with_fault(s: lists::Small, n: u32) -> lists::Small
 }
 
 // How far the word at an address lies from the first; an address below the section's is taken for the first.
-fn offset(base: u32, a: u32) -> usize
+pub fn offset(base: u32, a: u32) -> usize
     ensures { λ r. ⌜ (r ≡ (a - base) / 4 * 4) × (r < 0x1_0000_0000) ⌝ }
 {
     if a < base {
@@ -52,7 +52,7 @@ fn any_terminator(words: &[u8], from: usize, n: u64) -> bool
 }
 
 // How many words lie from one address up to another.
-fn words_between(from: u64, to: u64) -> u64
+pub fn words_between(from: u64, to: u64) -> u64
     ensures { λ r. ⌜ r ≡ (to - from) / 4 ⌝ }
 {
     if to < from {
