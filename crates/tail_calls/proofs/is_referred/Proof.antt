@@ -1,0 +1,38 @@
+use native.Mathlib.Omega.{arith}
+use Rattle.tail_calls.proofs.Cases.{none-between, reference-between, entry-between}
+use borrow.Author.Needs.{needs}
+use Rattle.tail_calls.proofs.is_referred.Statement.{statement}
+use Rattle.tail_calls.proofs.is_referred.Tie as tie
+
+returns : tie.Need-returns
+returns c = λ e alike knows. none-between _ _ _ _ _ _ e alike knows (omega arith)
+
+returns-2 : tie.Need-returns-2
+returns-2 c = λ e alike knows. none-between _ _ _ _ _ _ e alike knows (omega arith)
+
+add-low : tie.Need-add-low
+add-low c = search needs
+
+any-reference-requires : tie.Need-any-reference-requires
+any-reference-requires c κs = search needs
+
+returns-3 : tie.Need-returns-3
+returns-3 c = λ e alike knows. reference-between _ _ _ _ _ _ e alike knows _ (c .before .any-reference .ensures) (c .if3 .taken)
+
+any-between-requires : tie.Need-any-between-requires
+any-between-requires c κs = search needs
+
+returns-4 : tie.Need-returns-4
+returns-4 c = λ e alike knows. entry-between _ _ _ _ _ _ e alike knows _ (c .before .before .any-reference .ensures) _ (c .before .if3 .left) (c .any-between .ensures)
+
+pub is-referred-spec : {M : Type 1} → statement M
+is-referred-spec =
+    tie.close
+    (tie.spec
+    returns
+    returns-2
+    add-low
+    any-reference-requires
+    returns-3
+    any-between-requires
+    returns-4)

@@ -1,0 +1,62 @@
+use borrow.Author.Needs.{needs}
+use native.Mathlib.Omega.{arith}
+use Rattle.tail_calls.proofs.Among.{Among, among-first, among-none, among-past, among-found, among-on}
+use Rattle.tail_calls.proofs.prologue_among.Statement.{statement}
+use Rattle.tail_calls.proofs.prologue_among.Tie as tie
+
+abbrev Inv-loop : tie.InvT-loop
+Inv-loop words from n at₀ left₀ at left = Among words from n at left
+
+abbrev μ-loop : tie.MeasureT-loop
+μ-loop words from n at₀ left₀ at left = left
+
+loop-holds : tie.Need-loop-holds Inv-loop μ-loop
+loop-holds c = among-first _ _ _ (c .before .pre .0)
+
+add-if1 : tie.Need-add-if1 Inv-loop μ-loop
+add-if1 c = search needs
+
+returns : tie.Need-returns Inv-loop μ-loop
+returns c = among-past _ _ _ _ _ (c .before .before .loop .inv) (c .if1 .taken)
+
+cast-check-prologue-sequence : tie.Need-cast-check-prologue-sequence Inv-loop μ-loop
+cast-check-prologue-sequence c = search needs
+
+check-prologue-sequence-requires : tie.Need-check-prologue-sequence-requires Inv-loop μ-loop
+check-prologue-sequence-requires c κs = search needs
+
+returns-2 : tie.Need-returns-2 Inv-loop μ-loop
+returns-2 c = among-found _ _ _ _ _ (c .before .before .before .before .loop .inv) (c .before .before .before .loop-test .taken) (c .before .before .if1 .left) _ (c .before .check-prologue-sequence .ensures) (c .if2 .taken)
+
+add-at : tie.Need-add-at Inv-loop μ-loop
+add-at c = search needs
+
+sub-left : tie.Need-sub-left Inv-loop μ-loop
+sub-left c = search needs
+
+loop-less : tie.Need-loop-less Inv-loop μ-loop
+loop-less c = omega arith
+
+loop-again : tie.Need-loop-again Inv-loop μ-loop
+loop-again c = among-on _ _ _ _ _ (c .before .before .before .before .loop .inv) (c .before .before .before .loop-test .taken) (c .before .before .if1 .left) _ (c .before .check-prologue-sequence .ensures) (c .if2 .left)
+
+returns-3 : tie.Need-returns-3 Inv-loop μ-loop
+returns-3 c = among-none _ _ _ _ _ (c .before .loop .inv) (c .loop-test .left)
+
+pub prologue-among-spec : {M : Type 1} → statement M
+prologue-among-spec =
+    tie.close
+    (tie.spec
+    Inv-loop
+    μ-loop
+    loop-holds
+    add-if1
+    returns
+    cast-check-prologue-sequence
+    check-prologue-sequence-requires
+    returns-2
+    add-at
+    sub-left
+    loop-less
+    loop-again
+    returns-3)

@@ -1,0 +1,36 @@
+-- What a trial walk makes of a possible block.
+use mathlib.Core.Path.{_≡_}
+use mathlib.Core.Bool.{Bool, _&&_, not}
+use mathlib.Core.List.{List}
+use Prim.Native.Nat.{ℕ, _+_, _≤_}
+use lib.Dec.{ltb, leb}
+use lib.ListN.{length, take, drop}
+use Rattle.rules.specs.Choice.{Answer, any, filter}
+use Rattle.rules.specs.TailCall as rules
+use Rattle.lists.specs.View.{view, Fit}
+use Rattle.tail_calls.specs.declared.TailCall.{TailCall}
+use Rattle.tail_calls.specs.declared.TailCall.the-variants.{Not, Is, Possible}
+use Rattle.tail_calls.specs.declared.Judged.{Judged}
+
+-- p lies from first + 4 to just below end
+abbrev pub inside : ℕ → ℕ → ℕ → Bool
+inside first end p = leb (first + 4) p && ltb p end
+
+-- of the first n elements those inside are gone, and m are left
+pub record Dropped (before after : List ℕ) (n first end m : ℕ) : Type 0 where
+  pub live : take m after ≡ filter (λ p. not (inside first end p)) (take n before)
+  pub some : ltb m n ≡ any (inside first end) (take n before)
+  pub few : m ≤ n
+  pub size : length after ≡ length before
+
+abbrev pub answer-of : TailCall → rules.TailCall
+answer-of Not = rules.is-not
+answer-of Is = rules.is
+answer-of Possible = rules.possibly
+
+-- the answer and the lists are these, without a fault, and what is pending is as it was in k
+pub record Judges (a : Answer rules.Verdict) (k k′ v′ : List ℕ) (r : Judged) : Type 0 where
+  pub is : a ≡ rules.verdict (answer-of (r .answer)) (view k′ v′ (r .small))
+  pub fit : Fit k′ v′ (r .small)
+  pub fine : r .small .fault ≡ 0
+  pub pending : drop 1920 k′ ≡ drop 1920 k

@@ -1,0 +1,254 @@
+// FunctionSlices::check_tail_call: whether a possible block is one of the function's or a function of its own.
+ghost use mathlib.Core.Path.{_≡_};
+ghost use mathlib.Core.List.{List};
+ghost use Prim.Native.Nat.{ℕ, _-_, _≤_, _<_};
+ghost use lib.ListN.{length, take, drop};
+ghost use Rattle.rules.specs.Address.{address-of};
+ghost use Rattle.rules.specs.Bytes.{words-in};
+ghost use Rattle.rules.specs.Ordered.{self, Rising};
+ghost use Rattle.rules.specs.Sequences.{prologue-among};
+ghost use Rattle.rules.specs.Step as steps;
+ghost use Rattle.rules.specs.TailCall as rules;
+ghost use Rattle.obj.specs.Sections.{InBytes};
+ghost use Rattle.known.specs.Table.{Kept, Knows};
+ghost use Rattle.lists.specs.View.{view, Fit};
+ghost use Rattle.callback.specs.Around.{Alike};
+ghost use Rattle.tail_calls.specs.Asked.{Asked, tested};
+ghost use Rattle.tail_calls.specs.Judged.{Dropped, answer-of, Judges};
+
+// What the tests before the trial walk say: not a tail call, one, perhaps one, or that the trial decides.
+pub enum Tested {
+    Not,
+    Is,
+    Possible,
+    Trial,
+}
+
+// Whether a block starts at addr, it lies inside the function, or a prologue is recorded.
+pub fn is_own(k: &[u64], v: &[u64], s: lists::Small, a: callback::around::Around, addr: u64) -> bool
+    requires { ⌜ Fit (now k) (now v) s ⌝ }
+    ensures { λ r. ⌜ ((e : steps.Around) → Alike a e → r ≡ rules.is-own e addr (view (now (k .entry)) (now (v .entry)) s)) ⌝ }
+{
+    if lists::has_start(k, v, s, addr) {
+        return true;
+    }
+    ((a.start <= addr) & (addr < a.end)) | (s.prologue != 0)
+}
+
+// The 32-bit address of the word before an address; 0 where there is none.
+fn address_before(addr: u64) -> u32
+    ensures { λ r. ⌜ r ≡ address-of addr - 4 ⌝ }
+{
+    let x = (addr % 0x1_0000_0000) as u32;
+    if x < 4 {
+        return 0;
+    }
+    x - 4
+}
+
+// Whether addr lies below the start or in another section, or the word before it is zero.
+pub fn is_separate(bytes: &[u8], a: callback::around::Around, addr: u64) -> bool
+    requires { ⌜ InBytes (now bytes) (a .code) ⌝ }
+    ensures { λ r. ⌜ ((n : List ℕ) (e : steps.Around) → Asked (now (bytes .entry)) n a e → r ≡ rules.is-separate e addr) ⌝ }
+{
+    if addr < a.start {
+        return true;
+    }
+    if addr / 0x1_0000_0000 != a.start / 0x1_0000_0000 {
+        return true;
+    }
+    let code = a.code;
+    obj::sections::word(bytes, code, address_before(addr)) == 0
+}
+
+// Whether a function from start + 4 up to addr is referred to or known.
+pub fn is_referred(
+    known: &[u64],
+    k: &[u64],
+    v: &[u64],
+    s: lists::Small,
+    a: callback::around::Around,
+    addr: u64,
+) -> bool
+    requires kept { ⌜ Kept (a .known) (now known) ⌝ }
+    requires fit { ⌜ Fit (now k) (now v) s ⌝ }
+    ensures { λ r. ⌜ ((e : steps.Around) → Alike a e → Knows (a .known) (now (known .entry)) (e .entries) → r ≡ rules.is-referred e addr (view (now (k .entry)) (now (v .entry)) s)) ⌝ }
+{
+    if addr < a.start {
+        return false;
+    }
+    if addr - a.start < 4 {
+        return false;
+    }
+    let low = a.start + 4;
+    if lists::any_reference(k, v, s, low, addr) {
+        return true;
+    }
+    known::any_between(known, a.known, low, addr)
+}
+
+// Whether one of the n words from an offset on begins a prologue.
+fn prologue_among(words: &[u8], from: usize, n: u64) -> bool
+    requires { ⌜ (from < 0x1_0000_0000) × (length (now words) ≤ 0x1_0000_0000) ⌝ }
+    ensures { λ r. ⌜ r ≡ prologue-among n (words-in (drop from (now (words .entry)))) ⌝ }
+{
+    let mut at = from;
+    let mut left = n;
+    while 0 < left {
+        if words.len() < at + 4 {
+            return false;
+        }
+        if ppc::sequences::check_prologue_sequence(words, 0, at as u32) {
+            return true;
+        }
+        at += 4;
+        left -= 1;
+    }
+    false
+}
+
+// Whether a prologue begins from the start up to addr.
+pub fn prologue_before(bytes: &[u8], a: callback::around::Around, addr: u64) -> bool
+    requires { ⌜ InBytes (now bytes) (a .code) ⌝ }
+    ensures { λ r. ⌜ ((n : List ℕ) (e : steps.Around) → Asked (now (bytes .entry)) n a e → r ≡ rules.prologue-before e addr) ⌝ }
+{
+    let code = a.code;
+    let first = code.offset;
+    let past = code.offset + code.size as usize;
+    let from = sequences::offset(code.base, (a.start % 0x1_0000_0000) as u32);
+    prologue_among(
+        &bytes[first..past],
+        from,
+        sequences::words_between(a.start, addr),
+    )
+}
+
+// FunctionSlices::check_tail_call as far as it needs no trial walk, the tests in its order.
+pub fn check_before(
+    bytes: &[u8],
+    known: &[u64],
+    k: &[u64],
+    v: &[u64],
+    s: lists::Small,
+    a: callback::around::Around,
+    addr: u64,
+) -> Tested
+    requires lent { ⌜ InBytes (now bytes) (a .code) × Kept (a .known) (now known) ⌝ }
+    requires fit { ⌜ Fit (now k) (now v) s ⌝ }
+    ensures { λ r. ⌜ ((e : steps.Around) → Asked (now (bytes .entry)) (now (known .entry)) a e → rules.check-tail-call e addr (view (now (k .entry)) (now (v .entry)) s) ≡ tested e addr (view (now (k .entry)) (now (v .entry)) s) r) ⌝ }
+{
+    if is_own(k, v, s, a, addr) {
+        return Tested::Not;
+    }
+    if is_separate(bytes, a, addr) {
+        return Tested::Is;
+    }
+    if a.end == 0 {
+        return Tested::Possible;
+    }
+    if is_referred(known, k, v, s, a, addr) {
+        return Tested::Is;
+    }
+    if prologue_before(bytes, a, addr) {
+        return Tested::Is;
+    }
+    Tested::Trial
+}
+
+// What a tail-call test answers.
+pub enum TailCall {
+    Not,
+    Is,
+    Possible,
+}
+
+// The answer, and the function's lists: other possible blocks may be gone from them.
+pub struct Judged {
+    pub small: lists::Small,
+    pub answer: TailCall,
+}
+
+// Of the first n elements, which ascend, those from first + 4 to just below end are taken out; how many are left.
+fn drop_others(xs: &mut [u64], n: usize, first: u64, end: u64) -> usize
+    requires { ⌜ (n ≤ length (now xs)) × Rising self (take n (now xs)) ⌝ }
+    ensures { λ r. ⌜ Dropped (now (xs .entry)) (now (xs .exit)) n first end r ⌝ }
+{
+    if end <= first {
+        return n;
+    }
+    if end - first <= 4 {
+        return n;
+    }
+    let at = ordered::rank_in(xs, n, first + 4);
+    let until = ordered::rank_in(xs, n, end);
+    if until <= at {
+        return n;
+    }
+    runs::splice_fill(xs, n, at, until, 0, 0)
+}
+
+// A prologue or a load of r1 in the trial: a function.
+fn own_word(t: lists::Small) -> TailCall
+    ensures { λ r. ⌜ ((e : steps.Around) (k v : List ℕ) → answer-of r ≡ rules.own-word e (view k v t)) ⌝ }
+{
+    if t.prologue == 0 {
+        if t.load {
+            return TailCall::Is;
+        }
+        return TailCall::Possible;
+    }
+    TailCall::Is
+}
+
+// Another possible block in the trial's blocks, behind its first word: it goes with this one.
+fn judge_others(
+    k: &mut [u64],
+    v: &[u64],
+    s: lists::Small,
+    tk: &[u64],
+    tv: &[u64],
+    t: lists::Small,
+) -> Judged
+    requires own { ⌜ Fit (now k) (now v) s × (s .fault ≡ 0) ⌝ }
+    requires trial { ⌜ Fit (now tk) (now tv) t ⌝ }
+    ensures { λ r. ⌜ ((e : steps.Around) → Judges (rules.judge-others e (view (now (k .entry)) (now (v .entry)) s) (view (now (tk .entry)) (now (tv .entry)) t)) (now (k .entry)) (now (k .exit)) (now (v .entry)) r) ⌝ }
+{
+    let first = lists::first_start(tk, tv, t);
+    let end = lists::last_end(tk, tv, t);
+    let a: usize = 1792;
+    let b: usize = 1920;
+    let n = drop_others(&mut k[a..b], s.possible, first, end);
+    let mut r = s;
+    r.possible = n;
+    if n < s.possible {
+        return Judged {
+            small: r,
+            answer: TailCall::Not,
+        };
+    }
+    let answer = own_word(t);
+    Judged { small: r, answer }
+}
+
+// What a trial walk from addr that met a function makes of the possible block there. One that reached back before addr: not a tail call.
+pub fn judge_trial(
+    k: &mut [u64],
+    v: &[u64],
+    s: lists::Small,
+    tk: &[u64],
+    tv: &[u64],
+    t: lists::Small,
+    addr: u64,
+) -> Judged
+    requires own { ⌜ Fit (now k) (now v) s × (s .fault ≡ 0) ⌝ }
+    requires trial { ⌜ Fit (now tk) (now tv) t ⌝ }
+    ensures { λ r. ⌜ ((e : steps.Around) → Judges (rules.judge-trial e addr (view (now (k .entry)) (now (v .entry)) s) (view (now (tk .entry)) (now (tv .entry)) t)) (now (k .entry)) (now (k .exit)) (now (v .entry)) r) ⌝ }
+{
+    if lists::first_start(tk, tv, t) < addr {
+        return Judged {
+            small: s,
+            answer: TailCall::Not,
+        };
+    }
+    judge_others(k, v, s, tk, tv, t)
+}
