@@ -1,3 +1,3 @@
 pub mod Among
 pub mod Cases
-pub mod Judge
+pub mod Answers

@@ -3,11 +3,13 @@ use mathlib.Core.Path.{_≡_}
 use mathlib.Core.Bool.{Bool, _&&_, not}
 use mathlib.Core.List.{List}
 use Prim.Native.Nat.{ℕ, _+_, _≤_}
-use lib.Dec.{ltb, leb}
+use lib.Dec.{ltb, leb, eqb}
 use lib.ListN.{length, take, drop}
-use Rattle.rules.specs.Choice.{Answer, any, filter}
+use Rattle.rules.specs.Choice.{if, Answer, ok, fault, any, filter}
+use Rattle.rules.specs.Analyze.{Analyzed}
 use Rattle.rules.specs.TailCall as rules
 use Rattle.lists.specs.View.{view, Fit}
+use Rattle.lists.specs.declared.Small.{Small}
 use Rattle.tail_calls.specs.declared.TailCall.{TailCall}
 use Rattle.tail_calls.specs.declared.TailCall.the-variants.{Not, Is, Possible}
 use Rattle.tail_calls.specs.declared.Judged.{Judged}
@@ -33,4 +35,14 @@ pub record Judges (a : Answer rules.Verdict) (k k′ v′ : List ℕ) (r : Judge
   pub is : a ≡ rules.verdict (answer-of (r .answer)) (view k′ v′ (r .small))
   pub fit : Fit k′ v′ (r .small)
   pub fine : r .small .fault ≡ 0
+  pub pending : drop 1920 k′ ≡ drop 1920 k
+
+-- the answer of a trial walk, by its lists, which have its fault, and by whether it met a function
+unfoldable pub trial-answer : List ℕ → List ℕ → Small → Bool → Answer Analyzed
+trial-answer k v t found = if (eqb (t .fault) 0) (ok (record { slices = view k v t; found = found })) (fault (t .fault))
+
+-- the same as `Judges`, or a fault that ends the run
+pub record Decides (a : Answer rules.Verdict) (k k′ v′ : List ℕ) (r : Judged) : Type 0 where
+  pub is : a ≡ if (eqb (r .small .fault) 0) (rules.verdict (answer-of (r .answer)) (view k′ v′ (r .small))) (fault (r .small .fault))
+  pub fit : r .small .fault ≡ 0 → Fit k′ v′ (r .small)
   pub pending : drop 1920 k′ ≡ drop 1920 k

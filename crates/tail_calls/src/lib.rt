@@ -14,7 +14,7 @@ ghost use Rattle.known.specs.Table.{Kept, Knows};
 ghost use Rattle.lists.specs.View.{view, Fit};
 ghost use Rattle.callback.specs.Around.{Alike};
 ghost use Rattle.tail_calls.specs.Asked.{Asked, tested};
-ghost use Rattle.tail_calls.specs.Judged.{Dropped, answer-of, Judges};
+ghost use Rattle.tail_calls.specs.Judged.{Dropped, answer-of, Judges, trial-answer, Decides};
 
 // What the tests before the trial walk say: not a tail call, one, perhaps one, or that the trial decides.
 pub enum Tested {
@@ -251,4 +251,50 @@ pub fn judge_trial(
         };
     }
     judge_others(k, v, s, tk, tv, t)
+}
+
+// Faults of the trial that end the whole run; at the others nothing is known.
+fn ends_run(n: u32) -> bool
+    ensures { λ r. ⌜ r ≡ rules.ends-run n ⌝ }
+{
+    (n == 4) | (n == 10) | (n == 16)
+}
+
+// What a trial walk from addr makes of the possible block there. The trial's lists have its fault, 0 where there is none, and tell
+// nothing where there is one; `found` says whether it met a function.
+pub fn judge(
+    k: &mut [u64],
+    v: &[u64],
+    s: lists::Small,
+    tk: &[u64],
+    tv: &[u64],
+    t: lists::Small,
+    found: bool,
+    addr: u64,
+) -> Judged
+    requires own { ⌜ Fit (now k) (now v) s × (s .fault ≡ 0) ⌝ }
+    requires trial { ⌜ (t .fault ≡ 0 → Fit (now tk) (now tv) t) ⌝ }
+    ensures { λ r. ⌜ ((e : steps.Around) → Decides (rules.judge e addr (view (now (k .entry)) (now (v .entry)) s) (trial-answer (now (tk .entry)) (now (tv .entry)) t found)) (now (k .entry)) (now (k .exit)) (now (v .entry)) r) ⌝ }
+{
+    if t.fault == 0 {
+        if found {
+            return judge_trial(k, v, s, tk, tv, t, addr);
+        }
+        return Judged {
+            small: s,
+            answer: TailCall::Is,
+        };
+    }
+    if ends_run(t.fault) {
+        let mut r = s;
+        r.fault = t.fault;
+        return Judged {
+            small: r,
+            answer: TailCall::Possible,
+        };
+    }
+    Judged {
+        small: s,
+        answer: TailCall::Possible,
+    }
 }

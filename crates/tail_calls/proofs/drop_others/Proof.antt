@@ -1,5 +1,5 @@
 use native.Mathlib.Omega.{arith}
-use Rattle.tail_calls.proofs.Judge.{no-room, none-there, fits, some-there}
+use Rattle.tail_calls.proofs.Answers.{no-room, none-there, fits, some-there}
 use borrow.Author.Needs.{needs}
 use Rattle.tail_calls.proofs.drop_others.Statement.{statement}
 use Rattle.tail_calls.proofs.drop_others.Tie as tie

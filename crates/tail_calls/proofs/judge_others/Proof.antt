@@ -1,6 +1,6 @@
 use Rattle.lists.proofs.Stores.{possible-lie}
 use Rattle.lists.specs.View.{part}
-use Rattle.tail_calls.proofs.Judge.{others-gone, no-others}
+use Rattle.tail_calls.proofs.Answers.{others-gone, no-others}
 use borrow.Author.Needs.{needs}
 use Rattle.tail_calls.proofs.judge_others.Statement.{statement}
 use Rattle.tail_calls.proofs.judge_others.Tie as tie

@@ -1,4 +1,4 @@
-use Rattle.tail_calls.proofs.Judge.{reached-back, from-there}
+use Rattle.tail_calls.proofs.Answers.{reached-back, from-there}
 use borrow.Author.Needs.{needs}
 use Rattle.tail_calls.proofs.judge_trial.Statement.{statement}
 use Rattle.tail_calls.proofs.judge_trial.Tie as tie

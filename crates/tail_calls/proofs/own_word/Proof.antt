@@ -1,5 +1,5 @@
 use borrow.Author.Needs.{needs}
-use Rattle.tail_calls.proofs.Judge.{has-prologue, has-load, has-neither}
+use Rattle.tail_calls.proofs.Answers.{has-prologue, has-load, has-neither}
 use Rattle.tail_calls.proofs.own_word.Statement.{statement}
 use Rattle.tail_calls.proofs.own_word.Tie as tie
 

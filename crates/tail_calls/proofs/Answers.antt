@@ -8,7 +8,7 @@ use lib.Dec.{ltb, leb, eqb}
 use lib.ListN.{length, take, drop, replicate, length-append, length-drop}
 use lib.Seq.{slice, take-take, take-at, length-take-le, length-slice}
 use borrow.Author.Tests.{lt-ltb, le-ltb, le-leb, lt-leb, leb-true, ltb-true, ltb-false, eq-eqb, ne-eqb}
-use Rattle.rules.specs.Choice.{if, by-if, if-true, if-false, Answer, any, filter}
+use Rattle.rules.specs.Choice.{if, by-if, if-true, if-false, Answer, fault, any, filter}
 use Rattle.rules.specs.Ordered.{self, rank, Rising, Above}
 use Rattle.rules.specs.Blocks.{first-start, last-end}
 use Rattle.rules.specs.Slices.{Slices, with-possible}
@@ -20,7 +20,7 @@ use Rattle.lists.specs.View.{view, part, Fit, Are}
 use Rattle.lists.specs.declared.Small.{Small}
 use Rattle.lists.proofs.Parts.{Lent, over, lent, part-length}
 use Rattle.lists.proofs.Changes.{counted, possible-changed}
-use Rattle.tail_calls.specs.Judged.{inside, Dropped, answer-of, Judges}
+use Rattle.tail_calls.specs.Judged.{inside, Dropped, answer-of, Judges, trial-answer, Decides}
 use Rattle.tail_calls.specs.declared.TailCall.{TailCall}
 use Rattle.tail_calls.specs.declared.TailCall.the-variants.{Not, Is, Possible}
 use Rattle.tail_calls.specs.declared.Judged.{Judged}
@@ -245,3 +245,40 @@ module _ (s : Small) (e : steps.Around) (k v : List ℕ) where
   pub has-neither : s .prologue ≡ 0 → s .load ≡ false → rules.possibly ≡ rules.own-word e (view k v s)
   unfolding view
   has-neither h g = sym (if-false (ap (λ (b : Bool). not b || s .load) (eq-eqb (s .prologue) 0 h) ∙ g) _ _)
+
+-- ---- the trial's answer
+
+module _ (k v : List ℕ) (s : Small) (f : Fit k v s) (z : s .fault ≡ 0) (tk tv : List ℕ) (t : Small) (found : Bool) (addr : ℕ) (e : steps.Around) where
+  abbrev Decided : List ℕ → List ℕ → Judged → Type 0
+  Decided k′ v′ r = Decides (rules.judge e addr (view k v s) (trial-answer tk tv t found)) k k′ v′ r
+
+  -- an answer with the lists as they were
+  as-it-was : (a : TailCall) → rules.judge e addr (view k v s) (trial-answer tk tv t found) ≡ rules.verdict (answer-of a) (view k v s) → Decided k v (record { small = s; answer = a })
+  as-it-was a q = record { is = q ∙ sym (if-true (eq-eqb _ _ z) _ _); fit = λ _. f; pending = refl }
+
+  module _ (fine : t .fault ≡ 0) where
+    walked : rules.judge e addr (view k v s) (trial-answer tk tv t found) ≡ if found (rules.judge-trial e addr (view k v s) (view tk tv t)) (rules.verdict rules.is (view k v s))
+    unfolding trial-answer rules.judge
+    walked = ap (rules.judge e addr (view k v s)) (if-true (eq-eqb _ _ fine) _ _)
+
+    pub judged-trial : (k′ v′ : List ℕ) (r : Judged) → found ≡ true → Judges (rules.judge-trial e addr (view k v s) (view tk tv t)) k k′ v′ r → Decided k′ v′ r
+    judged-trial k′ v′ r h j =
+        record { is = walked ∙ if-true h _ _ ∙ j .is ∙ sym (if-true (eq-eqb _ _ (j .fine)) _ _); fit = λ _. j .fit; pending = j .pending }
+
+    pub nothing-met : found ≡ false → Decided k v (record { small = s; answer = Is })
+    nothing-met h = as-it-was Is (walked ∙ if-false h _ _)
+
+  module _ (bad : t .fault ≡ 0 → ⊥) (b : Bool) (is-b : b ≡ rules.ends-run (t .fault)) where
+    failed : rules.judge e addr (view k v s) (trial-answer tk tv t found) ≡ if b (fault (t .fault)) (rules.verdict rules.possibly (view k v s))
+    unfolding trial-answer rules.judge
+    failed =
+        ap (rules.judge e addr (view k v s)) (if-false (ne-eqb _ _ bad) _ _) ∙
+        ap (λ (x : Bool). if x (fault (t .fault)) (rules.verdict rules.possibly (view k v s))) (sym is-b)
+
+    pub run-ends : (r : Small) (a : TailCall) → b ≡ true → r .fault ≡ t .fault → Decided k v (record { small = r; answer = a })
+    run-ends r a h q =
+        let n : r .fault ≡ 0 → ⊥ = λ y. bad (sym q ∙ y) in
+        record { is = failed ∙ if-true h _ _ ∙ ap fault (sym q) ∙ sym (if-false (ne-eqb _ _ n) _ _); fit = λ y. absurd (n y); pending = refl }
+
+    pub not-known : b ≡ false → Decided k v (record { small = s; answer = Possible })
+    not-known h = as-it-was Possible (failed ∙ if-false h _ _)
