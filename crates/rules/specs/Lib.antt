@@ -25,3 +25,4 @@ pub mod Accounted
 pub mod Text
 pub mod Lines
 pub mod Run
+pub mod OneFunction
