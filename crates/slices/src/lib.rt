@@ -16,7 +16,7 @@ ghost use Rattle.run.specs.Steps.{Bits};
 ghost use Rattle.slices.specs.Passes.{restarted, apart};
 
 // Whether the walk met no function.
-fn is_nowhere(w: walk::Walk) -> bool
+pub fn is_nowhere(w: walk::Walk) -> bool
     ensures { λ r. ⌜ r ≡ rules.is-nowhere (place-of w) ⌝ }
 {
     if w.place == 0 {
@@ -36,7 +36,7 @@ fn start_pass(w: walk::Walk) -> walk::Walk
 }
 
 // The walk from addr.
-fn walk_from(
+pub fn walk_from(
     sections: &[u32],
     bytes: &[u8],
     outcomes: &[u32],
@@ -88,7 +88,7 @@ fn checked_pass(w: walk::Walk) -> walk::Walk
 }
 
 // A walk from addr, after the first: it must mark a new word.
-fn run_pass(
+pub fn run_pass(
     sections: &[u32],
     bytes: &[u8],
     outcomes: &[u32],
@@ -176,7 +176,7 @@ fn connect_step(
 }
 
 // "Visit unreachable blocks": passes until no block stands apart from the next.
-fn connect(
+pub fn connect(
     sections: &[u32],
     bytes: &[u8],
     outcomes: &[u32],

@@ -1,0 +1,376 @@
+// FunctionSlices::analyze: the walk from a start, passes until no block stands apart, and passes up to a known end.
+ghost use mathlib.Core.Path.{_≡_};
+ghost use mathlib.Core.Bool.{Bool};
+ghost use mathlib.Core.List.{List};
+ghost use Prim.Native.Nat.{ℕ, _≤_, _<_};
+ghost use lib.ListN.{length};
+ghost use Rattle.rules.specs.Blocks.{last-end};
+ghost use Rattle.rules.specs.Step as steps;
+ghost use Rattle.rules.specs.Analyze as rules;
+ghost use Rattle.obj.specs.Sections.{InBytes};
+ghost use Rattle.executor.specs.Bits.{bit};
+ghost use Rattle.lists.specs.View.{view, Fit};
+ghost use Rattle.walk.specs.State.{walk-of, Going, Is, Low, faulting};
+ghost use Rattle.callback.specs.Lends.{LendsAll, Of};
+ghost use Rattle.run.specs.Steps.{Bits};
+ghost use Rattle.analyze.specs.Analysis.{passes, walk-and-passes, begun, IsAnalyzed};
+
+// Behind the words `nop` from addr, as far as the function's end.
+fn skip_nops(bytes: &[u8], a: callback::around::Around, addr: u64) -> u64
+    requires { ⌜ InBytes (now bytes) (a .code) × Low (a .end) ⌝ }
+    ensures { λ r. ⌜ ((s f x n : List ℕ) (e : steps.Around) → Of s (now (bytes .entry)) f x n a e → r ≡ rules.skip-nops e addr) ⌝ }
+{
+    let code = a.code;
+    let mut at = addr;
+    while at < a.end {
+        let word = obj::sections::word(bytes, code, (at % 0x1_0000_0000) as u32);
+        if word != 0x6000_0000 {
+            return at;
+        }
+        at += 4;
+    }
+    at
+}
+
+// Where the last block ends, nops skipped.
+fn next_part(
+    bytes: &[u8],
+    k: &[u64],
+    v: &[u64],
+    a: callback::around::Around,
+    s: lists::Small,
+) -> u64
+    requires { ⌜ InBytes (now bytes) (a .code) × Low (a .end) × Fit (now k) (now v) s ⌝ }
+    ensures { λ r. ⌜ ((se f x n : List ℕ) (e : steps.Around) → Of se (now (bytes .entry)) f x n a e → r ≡ rules.skip-nops e (last-end (view (now (k .entry)) (now (v .entry)) s .blocks))) ⌝ }
+{
+    let end = lists::last_end(k, v, s);
+    skip_nops(bytes, a, end)
+}
+
+// Whether words are left before the known end.
+fn is_short(bytes: &[u8], k: &[u64], v: &[u64], a: callback::around::Around, w: walk::Walk) -> bool
+    requires { ⌜ InBytes (now bytes) (a .code) × Low (a .end) × Fit (now k) (now v) (w .small) ⌝ }
+    ensures { λ r. ⌜ ((s f x n : List ℕ) (e : steps.Around) → Of s (now (bytes .entry)) f x n a e → (vis : ℕ → Bool) → r ≡ rules.is-short e (walk-of vis (now (k .entry)) (now (v .entry)) w)) ⌝ }
+{
+    if slices::is_nowhere(w) {
+        return false;
+    }
+    if lists::last_end(k, v, w.small) == 0 {
+        return false;
+    }
+    next_part(bytes, k, v, a, w.small) < a.end
+}
+
+// One pass from where the last block ends.
+fn reach_step(
+    sections: &[u32],
+    bytes: &[u8],
+    outcomes: &[u32],
+    functions: &[u32],
+    objects: &[u32],
+    known: &[u64],
+    visited: &mut [u32; 2048],
+    k: &mut [u64],
+    v: &mut [u64],
+    a: callback::around::Around,
+    w: walk::Walk,
+) -> walk::Walk
+    requires lends { ⌜ LendsAll (now sections) (now bytes) (now outcomes) (now functions) (now objects) (now known) a ⌝ }
+    requires going { ⌜ Going (now k) (now v) w ⌝ }
+    requires bits { ⌜ length (now visited) ≡ 2048 ⌝ }
+    requires low { ⌜ Low (a .end) ⌝ }
+    ensures { λ r. ⌜ Bits (now (visited .exit)) × ((e : steps.Around) (o : Of (now (sections .entry)) (now (bytes .entry)) (now (functions .entry)) (now (objects .entry)) (now (known .entry)) a e) → o .lent .outcomes ≡ now (outcomes .entry) → Is (rules.reach-step e (walk-of (bit (now (visited .entry))) (now (k .entry)) (now (v .entry)) w)) (bit (now (visited .exit))) (now (k .exit)) (now (v .exit)) r) ⌝ }
+{
+    let to = next_part(bytes, k, v, a, w.small);
+    slices::run_pass(
+        sections,
+        bytes,
+        outcomes,
+        functions,
+        objects,
+        known,
+        visited,
+        k,
+        v,
+        a,
+        w,
+        to,
+    )
+}
+
+// "Visit trailing blocks": passes until the known end is reached.
+fn reach_end(
+    sections: &[u32],
+    bytes: &[u8],
+    outcomes: &[u32],
+    functions: &[u32],
+    objects: &[u32],
+    known: &[u64],
+    visited: &mut [u32; 2048],
+    k: &mut [u64],
+    v: &mut [u64],
+    a: callback::around::Around,
+    w: walk::Walk,
+) -> walk::Walk
+    requires lends { ⌜ LendsAll (now sections) (now bytes) (now outcomes) (now functions) (now objects) (now known) a ⌝ }
+    requires going { ⌜ Going (now k) (now v) w ⌝ }
+    requires bits { ⌜ length (now visited) ≡ 2048 ⌝ }
+    requires low { ⌜ Low (a .end) ⌝ }
+    ensures { λ r. ⌜ Bits (now (visited .exit)) × ((e : steps.Around) (o : Of (now (sections .entry)) (now (bytes .entry)) (now (functions .entry)) (now (objects .entry)) (now (known .entry)) a e) → o .lent .outcomes ≡ now (outcomes .entry) → Is (rules.reach-end e (walk-of (bit (now (visited .entry))) (now (k .entry)) (now (v .entry)) w)) (bit (now (visited .exit))) (now (k .exit)) (now (v .exit)) r) ⌝ }
+{
+    let mut r = w;
+    while is_short(bytes, k, v, a, r) {
+        r = reach_step(
+            sections,
+            bytes,
+            outcomes,
+            functions,
+            objects,
+            known,
+            visited,
+            k,
+            v,
+            a,
+            r,
+        );
+        if r.small.fault != 0 {
+            return r;
+        }
+    }
+    r
+}
+
+// Both kinds of passes.
+fn run_passes(
+    sections: &[u32],
+    bytes: &[u8],
+    outcomes: &[u32],
+    functions: &[u32],
+    objects: &[u32],
+    known: &[u64],
+    visited: &mut [u32; 2048],
+    k: &mut [u64],
+    v: &mut [u64],
+    a: callback::around::Around,
+    w: walk::Walk,
+) -> walk::Walk
+    requires lends { ⌜ LendsAll (now sections) (now bytes) (now outcomes) (now functions) (now objects) (now known) a ⌝ }
+    requires going { ⌜ Going (now k) (now v) w ⌝ }
+    requires bits { ⌜ length (now visited) ≡ 2048 ⌝ }
+    requires low { ⌜ Low (a .end) ⌝ }
+    ensures { λ r. ⌜ Bits (now (visited .exit)) × ((e : steps.Around) (o : Of (now (sections .entry)) (now (bytes .entry)) (now (functions .entry)) (now (objects .entry)) (now (known .entry)) a e) → o .lent .outcomes ≡ now (outcomes .entry) → Is (passes e (walk-of (bit (now (visited .entry))) (now (k .entry)) (now (v .entry)) w)) (bit (now (visited .exit))) (now (k .exit)) (now (v .exit)) r) ⌝ }
+{
+    let r = slices::connect(
+        sections,
+        bytes,
+        outcomes,
+        functions,
+        objects,
+        known,
+        visited,
+        k,
+        v,
+        a,
+        w,
+    );
+    if r.small.fault != 0 {
+        return r;
+    }
+    reach_end(
+        sections,
+        bytes,
+        outcomes,
+        functions,
+        objects,
+        known,
+        visited,
+        k,
+        v,
+        a,
+        r,
+    )
+}
+
+// The walk from addr, and the passes after it.
+fn walk_and_passes(
+    sections: &[u32],
+    bytes: &[u8],
+    outcomes: &[u32],
+    functions: &[u32],
+    objects: &[u32],
+    known: &[u64],
+    visited: &mut [u32; 2048],
+    k: &mut [u64],
+    v: &mut [u64],
+    a: callback::around::Around,
+    w: walk::Walk,
+    addr: u64,
+) -> walk::Walk
+    requires lends { ⌜ LendsAll (now sections) (now bytes) (now outcomes) (now functions) (now objects) (now known) a ⌝ }
+    requires going { ⌜ Going (now k) (now v) w ⌝ }
+    requires bits { ⌜ length (now visited) ≡ 2048 ⌝ }
+    requires low { ⌜ Low (a .end) ⌝ }
+    ensures { λ r. ⌜ Bits (now (visited .exit)) × ((e : steps.Around) (o : Of (now (sections .entry)) (now (bytes .entry)) (now (functions .entry)) (now (objects .entry)) (now (known .entry)) a e) → o .lent .outcomes ≡ now (outcomes .entry) → Is (walk-and-passes e addr (walk-of (bit (now (visited .entry))) (now (k .entry)) (now (v .entry)) w)) (bit (now (visited .exit))) (now (k .exit)) (now (v .exit)) r) ⌝ }
+{
+    let r = slices::walk_from(
+        sections,
+        bytes,
+        outcomes,
+        functions,
+        objects,
+        known,
+        visited,
+        k,
+        v,
+        a,
+        w,
+        addr,
+    );
+    if r.small.fault != 0 {
+        return r;
+    }
+    run_passes(
+        sections,
+        bytes,
+        outcomes,
+        functions,
+        objects,
+        known,
+        visited,
+        k,
+        v,
+        a,
+        r,
+    )
+}
+
+// A function's lists, and whether there is a function.
+pub struct Analyzed {
+    pub small: lists::Small,
+    pub found: bool,
+}
+
+// 11 where a block is open at the end of a walk that met a function.
+fn analyze_ends(k: &[u64], v: &[u64], w: walk::Walk) -> Analyzed
+    requires { ⌜ Going (now k) (now v) w ⌝ }
+    ensures { λ r. ⌜ ((e : steps.Around) (vis : ℕ → Bool) → IsAnalyzed (rules.analyze-ends e (walk-of vis (now (k .entry)) (now (v .entry)) w)) (now (k .entry)) (now (v .entry)) r) ⌝ }
+{
+    let mut small = w.small;
+    if slices::is_nowhere(w) {
+        return Analyzed {
+            small,
+            found: false,
+        };
+    }
+    if lists::any_open(k, v, w.small) {
+        small.fault = 11;
+        return Analyzed {
+            small,
+            found: false,
+        };
+    }
+    Analyzed { small, found: true }
+}
+
+// A walk that has not begun.
+fn new_walk(s: lists::Small) -> walk::Walk
+    ensures { λ r. ⌜ r ≡ begun s ⌝ }
+{
+    walk::Walk {
+        small: s,
+        pending: 0,
+        fresh: false,
+        place: 0,
+        at: 0,
+        block: 0,
+    }
+}
+
+// The walk from addr with no word visited, the passes after it, and what they come to.
+fn analyze_walk(
+    sections: &[u32],
+    bytes: &[u8],
+    outcomes: &[u32],
+    functions: &[u32],
+    objects: &[u32],
+    known: &[u64],
+    k: &mut [u64],
+    v: &mut [u64],
+    a: callback::around::Around,
+    s: lists::Small,
+    addr: u64,
+) -> Analyzed
+    requires lends { ⌜ LendsAll (now sections) (now bytes) (now outcomes) (now functions) (now objects) (now known) a ⌝ }
+    requires fit { ⌜ Fit (now k) (now v) s × (s .fault ≡ 0) ⌝ }
+    requires low { ⌜ Low (a .end) ⌝ }
+    ensures { λ r. ⌜ ((e : steps.Around) (o : Of (now (sections .entry)) (now (bytes .entry)) (now (functions .entry)) (now (objects .entry)) (now (known .entry)) a e) → o .lent .outcomes ≡ now (outcomes .entry) → IsAnalyzed (rules.analyze-walk e addr (view (now (k .entry)) (now (v .entry)) s)) (now (k .exit)) (now (v .exit)) r) ⌝ }
+{
+    let mut visited = executor::none_visited();
+    let w = walk_and_passes(
+        sections,
+        bytes,
+        outcomes,
+        functions,
+        objects,
+        known,
+        &mut visited.bits,
+        k,
+        v,
+        a,
+        new_walk(s),
+        addr,
+    );
+    let small = w.small;
+    if small.fault != 0 {
+        return Analyzed {
+            small,
+            found: false,
+        };
+    }
+    analyze_ends(k, v, w)
+}
+
+// From the start addr, if that is a new block.
+pub fn analyze(
+    sections: &[u32],
+    bytes: &[u8],
+    outcomes: &[u32],
+    functions: &[u32],
+    objects: &[u32],
+    known: &[u64],
+    k: &mut [u64],
+    v: &mut [u64],
+    a: callback::around::Around,
+    s: lists::Small,
+    addr: u64,
+) -> Analyzed
+    requires lends { ⌜ LendsAll (now sections) (now bytes) (now outcomes) (now functions) (now objects) (now known) a ⌝ }
+    requires fit { ⌜ Fit (now k) (now v) s × (s .fault ≡ 0) ⌝ }
+    requires low { ⌜ Low (a .end) ⌝ }
+    ensures { λ r. ⌜ ((e : steps.Around) (o : Of (now (sections .entry)) (now (bytes .entry)) (now (functions .entry)) (now (objects .entry)) (now (known .entry)) a e) → o .lent .outcomes ≡ now (outcomes .entry) → IsAnalyzed (rules.analyze e addr (view (now (k .entry)) (now (v .entry)) s)) (now (k .exit)) (now (v .exit)) r) ⌝ }
+{
+    let m = lists::add_block_start(k, v, s, addr);
+    let small = m.small;
+    if small.fault != 0 {
+        return Analyzed {
+            small,
+            found: false,
+        };
+    }
+    if m.new {
+        return analyze_walk(
+            sections,
+            bytes,
+            outcomes,
+            functions,
+            objects,
+            known,
+            k,
+            v,
+            a,
+            small,
+            addr,
+        );
+    }
+    Analyzed { small, found: true }
+}
