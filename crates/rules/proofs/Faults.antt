@@ -204,7 +204,7 @@ module _ (e : Around) where
   unfolding Analyze.run-pass Analyze.checked-pass
   run-pass-met k w = bind-fails (walk-from-met k w) (λ v. if-fails (λ _. result) (λ _. number (lit≤ tt, lit≤ tt)))
 
-  analyze-met : (k : ℕ) (s : Slices) → Met (Analyze.analyze e k s)
+  pub analyze-met : (k : ℕ) (s : Slices) → Met (Analyze.analyze e k s)
   unfolding Analyze.analyze Analyze.analyze-walk Analyze.connect Analyze.reach-end Analyze.analyze-ends Analyze.connect-step Analyze.pass-behind Analyze.reach-step
   analyze-met k s =
       bind-fails (add-block-start-met s k)

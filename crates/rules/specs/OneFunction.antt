@@ -34,10 +34,9 @@ is-start im k = eqb (section-of k) (code-number im) && is-entry im (address-of k
 unfoldable pub is-end : ℕ → ℕ → Bool
 is-end k end = eqb end 0 || (leb k end && leb end (k + 262144) && eqb (end % 4) 0)
 
--- 1 to 3 as for every image, and 3 where the known functions, the start or the end break a rule; 0 where nothing does
-unfoldable pub check-one : Given → List Block → ℕ → ℕ → ℕ
-check-one g known k end =
-    if (eqb (check g) 0) (if (are-known known && is-start (image-of g) k && is-end k end) 0 3) (check g)
+-- 1 to 3 as for every image, and 3 where the known functions as lent, the start or the end break a rule; 0 where nothing does
+unfoldable pub check-one : Given → Bool → ℕ → ℕ → ℕ
+check-one g known k end = if (eqb (check g) 0) (if (known && is-start (image-of g) k && is-end k end) 0 3) (check g)
 
 -- ---- a function's lists as numbers, column by column
 
@@ -72,9 +71,9 @@ stored room r = if (leb (length (numbers (r .slices))) room) (ok r) (fault 4)
 abbrev pub around-one : Image → List Block → ℕ → ℕ → Around
 around-one im known k end = record { image = im; start = k; end = end; entries = map known-entry known }
 
--- the walk from the start, on an empty value
-unfoldable pub walk-function : Given → List Block → ℕ → ℕ → ℕ → Answer Analyzed
-walk-function g known k end room =
-    if (eqb (check-one g known k end) 0)
+-- the walk from the start, on an empty value; `right` says whether the known functions are lent as they must be
+unfoldable pub walk-function : Given → Bool → List Block → ℕ → ℕ → ℕ → Answer Analyzed
+walk-function g right known k end room =
+    if (eqb (check-one g right k end) 0)
     (analyze (around-one (image-of g) known k end) k (with-only []) >>= λ r. stored room r)
-    (fault (check-one g known k end))
+    (fault (check-one g right k end))

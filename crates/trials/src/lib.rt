@@ -1,0 +1,95 @@
+// FunctionSlices::check_tail_call, its trial walk with it.
+ghost use mathlib.Core.Path.{_≡_};
+ghost use mathlib.Core.List.{List};
+ghost use Prim.Native.Nat.{ℕ, _<_};
+ghost use Rattle.rules.specs.Step as steps;
+ghost use Rattle.rules.specs.TailCall as rules;
+ghost use Rattle.lists.specs.View.{view, Fit};
+ghost use Rattle.walk.specs.State.{Low};
+ghost use Rattle.callback.specs.Lends.{LendsAll, Of};
+ghost use Rattle.tail_calls.specs.Judged.{Decides};
+
+// The trial walks from addr with lists of its own, in which only the references stand.
+fn trial(
+    sections: &[u32],
+    bytes: &[u8],
+    outcomes: &[u32],
+    functions: &[u32],
+    objects: &[u32],
+    known: &[u64],
+    k: &mut [u64],
+    v: &[u64],
+    a: callback::around::Around,
+    s: lists::Small,
+    addr: u64,
+) -> tail_calls::Judged
+    requires lends { ⌜ LendsAll (now sections) (now bytes) (now outcomes) (now functions) (now objects) (now known) a ⌝ }
+    requires fit { ⌜ Fit (now k) (now v) s × (s .fault ≡ 0) ⌝ }
+    requires low { ⌜ Low (a .end) ⌝ }
+    ensures { λ r. ⌜ ((e : steps.Around) (o : Of (now (sections .entry)) (now (bytes .entry)) (now (functions .entry)) (now (objects .entry)) (now (known .entry)) a e) → o .lent .outcomes ≡ now (outcomes .entry) → Decides (rules.trial e addr (view (now (k .entry)) (now (v .entry)) s)) (now (k .entry)) (now (k .exit)) (now (v .entry)) r) ⌝ }
+{
+    let mut tk: [u64; 2176] = [0; 2176];
+    let mut tv: [u64; 1536] = [0; 1536];
+    let t = lists::copy_references(k, v, s, &mut tk, &mut tv);
+    let r = analyze::analyze(
+        sections,
+        bytes,
+        outcomes,
+        functions,
+        objects,
+        known,
+        &mut tk,
+        &mut tv,
+        a,
+        t,
+        addr,
+    );
+    let small = r.small;
+    tail_calls::judge(k, v, s, &tk, &tv, small, r.found, addr)
+}
+
+fn answered(s: lists::Small, answer: tail_calls::TailCall) -> tail_calls::Judged
+    ensures { λ r. ⌜ r ≡ record { small = s; answer = answer } ⌝ }
+{
+    tail_calls::Judged { small: s, answer }
+}
+
+// Whether the possible block at addr is one of the function's or a function of its own.
+pub fn check_tail_call(
+    sections: &[u32],
+    bytes: &[u8],
+    outcomes: &[u32],
+    functions: &[u32],
+    objects: &[u32],
+    known: &[u64],
+    k: &mut [u64],
+    v: &[u64],
+    a: callback::around::Around,
+    s: lists::Small,
+    addr: u64,
+) -> tail_calls::Judged
+    requires lends { ⌜ LendsAll (now sections) (now bytes) (now outcomes) (now functions) (now objects) (now known) a ⌝ }
+    requires fit { ⌜ Fit (now k) (now v) s × (s .fault ≡ 0) ⌝ }
+    requires low { ⌜ Low (a .end) ⌝ }
+    ensures { λ r. ⌜ ((e : steps.Around) (o : Of (now (sections .entry)) (now (bytes .entry)) (now (functions .entry)) (now (objects .entry)) (now (known .entry)) a e) → o .lent .outcomes ≡ now (outcomes .entry) → Decides (rules.check-tail-call e addr (view (now (k .entry)) (now (v .entry)) s)) (now (k .entry)) (now (k .exit)) (now (v .entry)) r) ⌝ }
+{
+    let tested = tail_calls::check_before(bytes, known, k, v, s, a, addr);
+    match tested {
+        tail_calls::Tested::Not => answered(s, tail_calls::TailCall::Not),
+        tail_calls::Tested::Is => answered(s, tail_calls::TailCall::Is),
+        tail_calls::Tested::Possible => answered(s, tail_calls::TailCall::Possible),
+        tail_calls::Tested::Trial => trial(
+            sections,
+            bytes,
+            outcomes,
+            functions,
+            objects,
+            known,
+            k,
+            v,
+            a,
+            s,
+            addr,
+        ),
+    }
+}
