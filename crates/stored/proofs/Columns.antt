@@ -1,0 +1,134 @@
+-- The columns of the lists as they stand in the two slices.
+use mathlib.Core.Path.{_≡_, refl, ap, ap₂, _∙_}
+use mathlib.Core.List.{List, [], _∷_, _++_, map, append-assoc}
+use Prim.Native.Nat.{ℕ, _+_, _≤_}
+use native.Mathlib.Omega.{arith}
+use lib.Dec.{eqb}
+use lib.ListN.{length, take, length-append}
+use lib.Seq.{length-take-le}
+use borrow.Author.Tests.{eqb-true}
+use Rattle.rules.specs.Choice.{by-if}
+use Rattle.rules.specs.Blocks.{Block, block, startOf}
+use Rattle.rules.specs.Slices.{Ways, Table, addressOf}
+use Rattle.rules.specs.OneFunction.{endOf, sizeOf, way-froms, way-tos}
+use Rattle.ordered.specs.Columns.{join}
+use Rattle.ordered.proofs.Columns.{rows-keys, rows-values}
+use Rattle.lists.specs.Groups.{Pair, pair, sourceOf, add-way, grouped, ways-rows}
+use Rattle.lists.specs.View.{part, table, view, Fit}
+use Rattle.lists.specs.declared.Small.{Small}
+use Rattle.lists.proofs.Parts.{part-length}
+use Rattle.stored.specs.Laid.{flow, others}
+
+-- ---- ways on, grouped and told one by one again
+
+abbrev targetOf : Pair → ℕ
+targetOf p = p .target
+
+from-added : (p : Pair) (g : List Ways) → way-froms (add-way p g) ≡ p .source ∷ way-froms g
+from-added p [] = refl
+from-added p (w ∷ g) =
+    by-if (λ (l : List Ways). way-froms l ≡ p .source ∷ way-froms (w ∷ g)) (eqb (p .source) (w .from))
+    (λ e. ap (λ (f : ℕ). p .source ∷ (map (λ _. f) (w .targets) ++ way-froms g)) (eqb-true (p .source) (w .from) e))
+    (λ _. refl)
+
+to-added : (p : Pair) (g : List Ways) → way-tos (add-way p g) ≡ p .target ∷ way-tos g
+to-added p [] = refl
+to-added p (w ∷ g) = by-if (λ (l : List Ways). way-tos l ≡ p .target ∷ way-tos (w ∷ g)) (eqb (p .source) (w .from)) (λ _. refl) (λ _. refl)
+
+froms-grouped : (l : List Pair) → way-froms (grouped l) ≡ map sourceOf l
+froms-grouped [] = refl
+froms-grouped (p ∷ l) = from-added p (grouped l) ∙ ap (λ (m : List ℕ). p .source ∷ m) (froms-grouped l)
+
+tos-grouped : (l : List Pair) → way-tos (grouped l) ≡ map targetOf l
+tos-grouped [] = refl
+tos-grouped (p ∷ l) = to-added p (grouped l) ∙ ap (λ (m : List ℕ). p .target ∷ m) (tos-grouped l)
+
+-- ---- the columns
+
+module _ (n : ℕ) (xs ys : List ℕ) (hx : n ≤ length xs) (hy : n ≤ length ys) where
+  pub starts-are : map startOf (join block (take n xs) (take n ys)) ≡ take n xs
+  starts-are = rows-keys block n xs ys hx hy startOf (λ x y. refl)
+
+  pub ends-are : map endOf (join block (take n xs) (take n ys)) ≡ take n ys
+  ends-are = rows-values block n xs ys hx hy endOf (λ x y. refl)
+
+  pub froms-are : way-froms (ways-rows n xs ys) ≡ take n xs
+  froms-are = froms-grouped (join pair (take n xs) (take n ys)) ∙ rows-keys pair n xs ys hx hy sourceOf (λ x y. refl)
+
+  pub tos-are : way-tos (ways-rows n xs ys) ≡ take n ys
+  tos-are = tos-grouped (join pair (take n xs) (take n ys)) ∙ rows-values pair n xs ys hx hy targetOf (λ x y. refl)
+
+  pub addresses-are : map addressOf (join table (take n xs) (take n ys)) ≡ take n xs
+  addresses-are = rows-keys table n xs ys hx hy addressOf (λ x y. refl)
+
+  pub sizes-are : map sizeOf (join table (take n xs) (take n ys)) ≡ take n ys
+  sizes-are = rows-values table n xs ys hx hy sizeOf (λ x y. refl)
+
+  -- as long as both together
+  pub both-long : length (take n xs ++ take n ys) ≡ n + n
+  both-long = length-append (take n xs) (take n ys) ∙ ap₂ (λ (i j : ℕ). i + j) (length-take-le n xs hx) (length-take-le n ys hy)
+
+module _ (k v : List ℕ) (s : Small) (f : Fit k v s) where
+  -- each column is as long as its count
+  pub starts-fit : s .blocks ≤ length (part 0 256 k)
+  starts-fit = omega (arith, f .held .blocks-fit, part-length 0 256 k (omega (arith, f .keys)))
+
+  pub ends-fit : s .blocks ≤ length (part 0 256 v)
+  ends-fit = omega (arith, f .held .blocks-fit, part-length 0 256 v (omega (arith, f .values)))
+
+  pub froms-fit : s .ways ≤ length (part 256 1024 k)
+  froms-fit = omega (arith, f .held .ways-fit, part-length 256 1024 k (omega (arith, f .keys)))
+
+  pub tos-fit : s .ways ≤ length (part 256 1024 v)
+  tos-fit = omega (arith, f .held .ways-fit, part-length 256 1024 v (omega (arith, f .values)))
+
+  pub references-fit : s .references ≤ length (part 1280 256 k)
+  references-fit = omega (arith, f .held .references-fit, part-length 1280 256 k (omega (arith, f .keys)))
+
+  pub addresses-fit : s .tables ≤ length (part 1536 256 k)
+  addresses-fit = omega (arith, f .held .tables-fit, part-length 1536 256 k (omega (arith, f .keys)))
+
+  pub sizes-fit : s .tables ≤ length (part 1280 256 v)
+  sizes-fit = omega (arith, f .held .tables-fit, part-length 1280 256 v (omega (arith, f .values)))
+
+  pub possible-fit : s .possible ≤ length (part 1792 128 k)
+  possible-fit = omega (arith, f .held .possible-fit, part-length 1792 128 k (omega (arith, f .keys)))
+
+  -- the columns two by two
+  abbrev pub blocks-columns : List ℕ
+  blocks-columns = take (s .blocks) (part 0 256 k) ++ take (s .blocks) (part 0 256 v)
+
+  abbrev pub ways-columns : List ℕ
+  ways-columns = take (s .ways) (part 256 1024 k) ++ take (s .ways) (part 256 1024 v)
+
+  abbrev pub references-column : List ℕ
+  references-column = take (s .references) (part 1280 256 k)
+
+  abbrev pub tables-columns : List ℕ
+  tables-columns = take (s .tables) (part 1536 256 k) ++ take (s .tables) (part 1280 256 v)
+
+  abbrev pub possible-column : List ℕ
+  possible-column = take (s .possible) (part 1792 128 k)
+
+  pub flow-is : flow (view k v s) ≡ blocks-columns ++ ways-columns
+  unfolding view
+  flow-is =
+      rw (starts-are _ _ _ starts-fit ends-fit, ends-are _ _ _ starts-fit ends-fit, froms-are _ _ _ froms-fit tos-fit, tos-are _ _ _ froms-fit tos-fit)
+      (append-assoc blocks-columns (take (s .ways) (part 256 1024 k)) (take (s .ways) (part 256 1024 v)))
+
+  pub others-is : others (view k v s) ≡ references-column ++ tables-columns ++ possible-column
+  unfolding view
+  others-is =
+      rw (addresses-are _ _ _ addresses-fit sizes-fit, sizes-are _ _ _ addresses-fit sizes-fit)
+      (ap (λ (l : List ℕ). l ++ possible-column) (append-assoc references-column (take (s .tables) (part 1536 256 k)) (take (s .tables) (part 1280 256 v))))
+
+  pub flow-long : length (flow (view k v s)) ≡ (s .blocks + s .blocks) + (s .ways + s .ways)
+  flow-long = ap length flow-is ∙ length-append blocks-columns ways-columns ∙ ap₂ (λ (i j : ℕ). i + j) (both-long _ _ _ starts-fit ends-fit) (both-long _ _ _ froms-fit tos-fit)
+
+  pub others-long : length (others (view k v s)) ≡ s .references + (s .tables + s .tables) + s .possible
+  others-long =
+      ap length others-is
+      ∙ length-append (references-column ++ tables-columns) possible-column
+      ∙ ap₂ (λ (i j : ℕ). i + j)
+      (length-append references-column tables-columns ∙ ap₂ (λ (i j : ℕ). i + j) (length-take-le _ _ references-fit) (both-long _ _ _ addresses-fit sizes-fit))
+      (length-take-le _ _ possible-fit)

@@ -1,0 +1,4 @@
+pub mod Numbers
+pub mod Laying
+pub mod Columns
+pub mod Cases
