@@ -1,0 +1,67 @@
+// The known functions taken from a lent list of rows, entry and end, into the slice that a walk asks.
+ghost use mathlib.Core.Path.{_≡_};
+ghost use Prim.Native.Nat.{_+_, _≤_};
+ghost use lib.Dec.{ltb};
+ghost use lib.ListN.{length, take, drop};
+ghost use Rattle.rules.specs.Check.{chained};
+ghost use Rattle.known_rows.specs.Rows.{every-other, Filled, Taken};
+
+// Every other number of the rows, from the first or the second on: n of them.
+fn copy_column(rows: &[u64], from: usize, n: usize, out: &mut [u64])
+    requires { ⌜ (from ≤ 1) × (n + n ≤ length (now rows)) × (n ≤ length (now out)) ⌝ }
+    ensures size { λ _. ⌜ length (now (out .exit)) ≡ length (now (out .entry)) ⌝ }
+    ensures column { λ _. ⌜ take n (now (out .exit)) ≡ take n (every-other (drop from (now (rows .entry)))) ⌝ }
+{
+    let mut i: usize = 0;
+    while i < n {
+        out[i] = rows[from + 2 * i];
+        i += 1;
+    }
+}
+
+// The entries into the first half, the ends into the second.
+fn fill_known(rows: &[u64], n: usize, known: &mut [u64])
+    requires { ⌜ (length (now rows) ≡ n + n) × (n ≤ 1024) × (length (now known) ≡ 2048) ⌝ }
+    ensures { λ _. ⌜ Filled n (now (rows .entry)) (now (known .exit)) ⌝ }
+{
+    let a: usize = 0;
+    let b: usize = 1024;
+    let c: usize = 2048;
+    copy_column(rows, 0, n, &mut known[a..b]);
+    copy_column(rows, 1, n, &mut known[b..c]);
+}
+
+// Whether each of the first n elements is above the one before.
+fn ascends(xs: &[u64], n: usize) -> bool
+    requires { ⌜ n ≤ length (now xs) ⌝ }
+    ensures { λ r. ⌜ r ≡ chained ltb (take n (now (xs .entry))) ⌝ }
+{
+    let mut i: usize = 0;
+    let mut j: usize = 1;
+    while j < n {
+        if xs[j] <= xs[i] {
+            return false;
+        }
+        i = j;
+        j += 1;
+    }
+    true
+}
+
+// Whether the rows are known functions: whole, at most 1,024, ascending strictly by their entries; if so, they are taken.
+pub fn take_known(rows: &[u64], known: &mut [u64]) -> bool
+    requires { ⌜ length (now known) ≡ 2048 ⌝ }
+    ensures { λ r. ⌜ Taken (now (rows .entry)) (now (known .exit)) r ⌝ }
+{
+    if 0 < rows.len() % 2 {
+        return false;
+    }
+    let n = rows.len() / 2;
+    if 1024 < n {
+        return false;
+    }
+    fill_known(rows, n, known);
+    let a: usize = 0;
+    let b: usize = 1024;
+    ascends(&known[a..b], n)
+}
