@@ -1,0 +1,4 @@
+pub mod Counts
+pub mod Endings
+pub mod Starts
+pub mod Lending
