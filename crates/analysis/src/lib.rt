@@ -1,9 +1,10 @@
 // The entries of jump tables (analysis/mod.rs).
 ghost use mathlib.Core.Path.{_≡_};
 ghost use mathlib.Core.Bool.{true};
-ghost use mathlib.Core.List.{[]};
+ghost use mathlib.Core.List.{[], _∷_};
 ghost use Prim.Native.Nat.{_+_, _*_, _-_, _%_, min, _<_, _≤_};
-ghost use lib.ListN.{length};
+ghost use lib.ListN.{length, drop};
+ghost use Rattle.rules.specs.Bytes.{words-in};
 ghost use Rattle.rules.specs.Image as images;
 ghost use Rattle.rules.specs.JumpTable as rules;
 ghost use Rattle.obj.specs.Lent.{Lent, image, seen};
@@ -83,6 +84,14 @@ fn take_entry(entries: &mut [u64], s: Reading, v: u32, t: u64) -> Reading
     }
 }
 
+// The word of a table at an offset among its bytes: the next one of the words from there.
+fn read_u32(words: &[u8], at: usize) -> u32
+    requires { ⌜ at + 4 ≤ length (now words) ⌝ }
+    ensures { λ r. ⌜ words-in (drop at (now (words .entry))) ≡ r ∷ words-in (drop (at + 4) (now (words .entry))) ⌝ }
+{
+    ppc::words::word_at(words, at)
+}
+
 // A word of a table with a size: zero words are passed over.
 fn sized_word(sections: &[u32], entries: &mut [u64], s: Reading, v: u32) -> Reading
     requires { ⌜ Few (now sections) × Live s (now entries) × (s .fault ≡ 0) ⌝ }
@@ -116,7 +125,7 @@ fn sized_entries(sections: &[u32], words: &[u8], entries: &mut [u64]) -> Table
     };
     let mut at: usize = 0;
     while 4 <= words.len() - at {
-        s = sized_word(sections, entries, s, ppc::words::word_at(words, at));
+        s = sized_word(sections, entries, s, read_u32(words, at));
         if s.fault != 0 {
             return failed(entries, s.count, s.fault);
         }
@@ -170,7 +179,7 @@ fn unsized_entries(
     };
     let mut at: usize = 0;
     while 4 <= words.len() - at {
-        let v = ppc::words::word_at(words, at);
+        let v = read_u32(words, at);
         let t = located(sections, v);
         if !is_inside(first, past, t) {
             return read_so_far(s);

@@ -23,7 +23,7 @@ use Rattle.lists.specs.View.{view}
 use Rattle.walk.specs.State.{walk-of, place-of, Is}
 use Rattle.walk.specs.declared.Walk.{Walk}
 use Rattle.callback.specs.Lends.{Of}
-use Rattle.callback.specs.declared.around.Around.{Around}
+use Rattle.callback_around.specs.declared.around.Around.{Around}
 use Rattle.callback.proofs.Lends.{word-of}
 use Rattle.slices.proofs.Loops.{sound-of, aimed-of}
 

@@ -32,10 +32,10 @@ use Rattle.walk.proofs.Answers.{is-fault, stopped, onward, refit}
 use borrow.Author.Tests.{eq-eqb, ne-eqb}
 use Rattle.executor.specs.Pending.{pending}
 use Rattle.executor.proofs.Pending.{pending-same}
-use Rattle.callback.specs.Around.{after-block}
+use Rattle.callback.specs.AfterBlock.{after-block}
 use Rattle.callback.specs.Lends.{Of, kind}
-use Rattle.callback.specs.declared.around.Around.{Around}
-use Rattle.callback.proofs.Places.{placed-same, placed-nowhere}
+use Rattle.callback_around.specs.declared.around.Around.{Around}
+use Rattle.callback_around.proofs.Places.{placed-same, placed-nowhere}
 
 -- ---- returns noted
 

@@ -1,2 +1,3 @@
-pub mod Around
+pub use Rattle.callback_around.specs.Around
+pub mod AfterBlock
 pub mod Lends

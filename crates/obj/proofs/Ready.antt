@@ -14,12 +14,13 @@ use Rattle.rules.specs.Image as images
 use Rattle.rules.specs.Image.{contains, code-section, code-number, in-code, locate}
 use Rattle.rules.specs.Given.{SectionRow, SymbolRow}
 use Rattle.rules.specs.Check as rules
-use Rattle.rules.proofs.Tests.{and-left, and-right}
+use Rattle.rules.proofs.Tests.{and-left, and-right, and-both}
 use Rattle.rules.proofs.Passes.{Passed, passed-of, checked-of}
 use Rattle.obj_image.specs.Lent.{Lent, rows, section-row, outcome-row, symbol-row, skip-row, given, image}
 use Rattle.obj.specs.Sections.{Few, IsCode, InBytes}
 use Rattle.obj.specs.Outcomes.{InCode}
 use Rattle.obj_rows.specs.Symbols.{addresses}
+use Rattle.obj_rows.specs.Skips.{is-nonempty, Ascending}
 use Rattle.obj.specs.declared.sections.Code.{Code}
 use Rattle.obj_image.proofs.Rows.{rows-count, whole-of}
 use Rattle.obj_image.proofs.SectionRows.{locate-in, located}
@@ -70,6 +71,13 @@ code-located i at a (r ∷ rs) h low high =
     go : (b : Bool) → if b here later .base ≤ a → a < if b here later .base + if b here later .size → (0 < later .size → (leb (r .base + r .size) (later .base) || leb (later .base + later .size) (r .base)) ≡ true) → (later .base ≤ a → a < later .base + later .size → locate-in (suc i) rs a ≡ key (later .number) a) → locate-in i (r ∷ rs) a ≡ key (if b here later .number) a
     go true l k f g = rw (le-leb (r .base) a l, lt-ltb a (r .base + r .size) k) refl
     go false l k f g = if-false (apart-not (r .base) (r .size) (later .base) (later .size) a (f (omega arith)) l k) _ _ ∙ g l k
+
+-- a range that passes is not empty
+nonempty-all : (im : images.Image) (rs : List images.Range) → rules.all (rules.is-skip im) rs ≡ true → rules.all is-nonempty rs ≡ true
+nonempty-all im [] h = refl
+nonempty-all im (r ∷ rs) h =
+    let one : is-nonempty r ≡ true = and-right (eqb (r .first % 4) 0 && eqb (r .past % 4) 0) _ (and-left _ _ (and-left _ _ (and-left _ _ h))) in
+    and-both (is-nonempty r) _ one (nonempty-all im rs (and-right (rules.is-skip im r) _ h))
 
 -- ---- the lists of an image that passes the checks
 
@@ -138,6 +146,15 @@ module _ (l : Lent) (checked : rules.check (given l) ≡ 0) where
 
   pub whole-skips : length (l .skips) % 2 ≡ 0
   whole-skips = whole-of 2 (omega arith) skip-row (rules.is-skip (image l)) (not-a-skip (image l)) (l .skips) (and-right (leb (length (rows 2 skip-row (l .skips))) 64) _ (and-left _ _ skips-pass))
+
+  -- what halving asks of the skip ranges
+  pub skips-rise : Ascending (l .skips)
+  skips-rise =
+      record {
+        whole = whole-skips;
+        nonempty = nonempty-all (image l) (rows 2 skip-row (l .skips)) (and-right (leb (length (rows 2 skip-row (l .skips))) 64) _ (and-left _ _ skips-pass));
+        order = and-right (leb (length (rows 2 skip-row (l .skips))) 64 && rules.all (rules.is-skip (image l)) (rows 2 skip-row (l .skips))) _ skips-pass;
+      }
 
   pub functions-rise : Rising self (addresses (l .functions))
   functions-rise =

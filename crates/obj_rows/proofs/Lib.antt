@@ -1,5 +1,6 @@
 pub mod OutcomeRows
 pub mod SkipRows
+pub mod SkipHalving
 pub mod SymbolRows
 pub mod Seen
 pub mod Halving

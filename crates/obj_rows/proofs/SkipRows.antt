@@ -7,7 +7,7 @@ use native.Mathlib.Omega.{arith}
 use lib.Dec.{leb, eqb}
 use lib.ListN.{length, drop, getD}
 use borrow.Author.Tests.{eq-eqb, ne-eqb, ltb-true}
-use Rattle.rules.specs.Choice.{if, if-true, if-false, any}
+use Rattle.rules.specs.Choice.{if, any}
 use Rattle.rules.specs.Image as images
 use Rattle.rules.specs.Image.{in-range, in-skipped-range}
 use Rattle.rules.specs.Given.{image-of}
@@ -16,8 +16,7 @@ use Rattle.rules.specs.Map.{Capacity, past-range, skip-range}
 use Rattle.rules.proofs.Tests.{and-right}
 use Rattle.obj_image.specs.Lent.{Lent, rows, skip-row, given, image, seen}
 use Rattle.obj_rows.specs.Skips.{range-of, IsSkipped}
-use Rattle.obj_rows.specs.declared.skips.Range.{Range}
-use Rattle.obj_image.proofs.Rows.{row-here, row-end, rows-count, not-whole, middle-false}
+use Rattle.obj_image.proofs.Rows.{row-here, rows-count, not-whole, middle-false}
 
 -- a range's row, by its numbers
 pub range-here : (l : List ℕ) (at : ℕ) → at + 2 ≤ length l → rows 2 skip-row (drop at l) ≡ range-of (record { first = getD l at 0; past = getD l (at + 1) 0 }) ∷ rows 2 skip-row (drop (at + 2) l)
@@ -38,16 +37,6 @@ module _ (s : List ℕ) (a r : ℕ) (is : r ≡ past-in a (rows 2 skip-row s)) w
   pub skipped : IsSkipped s a r
   unfolding skip-range image-of given
   skipped l cap e = is ∙ sym (ap (λ (t : List ℕ). past-in a (rows 2 skip-row t)) e) ∙ sym (past-any (image l) cap a (rows 2 skip-row (l .skips)))
-
-module _ (x : Range) (rest tail : List images.Range) (a whole : ℕ) (same : past-in a rest ≡ whole) (next : rest ≡ range-of x ∷ tail) (b : Bool) (is : b ≡ in-range a (range-of x)) where
-  pub range-holds : b ≡ true → x .past ≡ whole
-  range-holds h = sym (if-true (sym is ∙ h) _ _) ∙ ap (past-in a) (sym next) ∙ same
-
-  pub range-later : b ≡ false → past-in a tail ≡ whole
-  range-later h = sym (if-false (sym is ∙ h) _ _) ∙ ap (past-in a) (sym next) ∙ same
-
-pub range-none : (l : List ℕ) (at a whole : ℕ) → past-in a (rows 2 skip-row (drop at l)) ≡ whole → length l ≤ at → a ≡ whole
-range-none l at a whole same h = sym (ap (past-in a) (row-end 2 (omega arith) skip-row l at h)) ∙ same
 
 -- an address in a range is below where it ends
 past-moves : (a : ℕ) (rs : List images.Range) → any (in-range a) rs ≡ not (eqb (past-in a rs) a)

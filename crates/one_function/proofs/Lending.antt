@@ -23,7 +23,7 @@ use Rattle.obj.proofs.Ready.{few-sections}
 use Rattle.obj.specs.declared.sections.Code.{Code}
 use Rattle.walk.specs.State.{Low}
 use Rattle.callback.specs.Lends.{LendsAll, Of}
-use Rattle.callback.specs.declared.around.Around.{Around}
+use Rattle.callback_around.specs.declared.around.Around.{Around}
 use Rattle.callback.proofs.Lends.{sections-few}
 use Rattle.known_rows.specs.Rows.{are-known-list, known-blocks, Taken}
 use Rattle.one_function.specs.Results.{no-function, kept-in, Finished, Told, Checked}

@@ -28,7 +28,7 @@ use Rattle.lists.specs.declared.Small.{Small}
 use Rattle.sequences.specs.Code.{CodeWords}
 use Rattle.sequences.proofs.Scan.{from-offset}
 use Rattle.callback.specs.Around.{Alike}
-use Rattle.callback.specs.declared.around.Around.{Around}
+use Rattle.callback_around.specs.declared.around.Around.{Around}
 use Rattle.callback.specs.Lends.{Of}
 use Rattle.callback.proofs.Lends.{alike, image-passed}
 use Rattle.callback.proofs.WordCases.{code-part}

@@ -23,8 +23,8 @@ loop-holds c = (omega arith, search (needs, sized-start))
 sub-loop : tie.Need-sub-loop Inv-loop μ-loop
 sub-loop c = search needs
 
-word-at-requires : tie.Need-word-at-requires Inv-loop μ-loop
-word-at-requires c κs = search needs
+read-u32-requires : tie.Need-read-u32-requires Inv-loop μ-loop
+read-u32-requires c κs = search needs
 
 sized-word-requires : tie.Need-sized-word-requires Inv-loop μ-loop
 sized-word-requires c κs = search needs
@@ -36,7 +36,7 @@ same-length : tie.Need-same-length Inv-loop μ-loop
 same-length c = search needs
 
 returns : tie.Need-returns Inv-loop μ-loop
-returns c = meets _ _ _ _ _ _ _ (c .before .before .before .before .before .before .before .before .before .before .before .before .loop .inv .1) _ _ _ _ _ _ (c .before .before .before .before .before .before .before .before .before .word-at .ensures) (c .before .before .before .before .before .before .before .before .sized-word .ensures) refl (c .before .before .before .before .if1 .taken) (c .before .before .failed .ensures)
+returns c = meets _ _ _ _ _ _ _ (c .before .before .before .before .before .before .before .before .before .before .before .before .loop .inv .1) _ _ _ _ _ _ (c .before .before .before .before .before .before .before .before .before .read-u32 .ensures) (c .before .before .before .before .before .before .before .before .sized-word .ensures) refl (c .before .before .before .before .if1 .taken) (c .before .before .failed .ensures)
 
 add-at : tie.Need-add-at Inv-loop μ-loop
 add-at c = search needs
@@ -45,7 +45,7 @@ loop-less : tie.Need-loop-less Inv-loop μ-loop
 loop-less c = omega arith
 
 loop-again : tie.Need-loop-again Inv-loop μ-loop
-loop-again c = (omega arith, reads-on _ _ _ _ _ _ _ (c .before .before .before .before .before .before .before .before .loop .inv .1) _ _ _ (c .before .before .before .before .before .word-at .ensures) (c .before .before .before .before .sized-word .ensures) (c .if1 .left))
+loop-again c = (omega arith, reads-on _ _ _ _ _ _ _ (c .before .before .before .before .before .before .before .before .loop .inv .1) _ _ _ (c .before .before .before .before .before .read-u32 .ensures) (c .before .before .before .before .sized-word .ensures) (c .if1 .left))
 
 cast-t18 : tie.Need-cast-t18 Inv-loop μ-loop
 cast-t18 c = search needs
@@ -73,7 +73,7 @@ sized-entries-spec =
     μ-loop
     loop-holds
     sub-loop
-    word-at-requires
+    read-u32-requires
     sized-word-requires
     failed-requires
     same-length

@@ -23,8 +23,8 @@ loop-holds c = (omega arith, search (needs, unsized-start))
 sub-loop : tie.Need-sub-loop Inv-loop μ-loop
 sub-loop c = search needs
 
-word-at-requires : tie.Need-word-at-requires Inv-loop μ-loop
-word-at-requires c κs = search needs
+read-u32-requires : tie.Need-read-u32-requires Inv-loop μ-loop
+read-u32-requires c κs = search needs
 
 located-requires : tie.Need-located-requires Inv-loop μ-loop
 located-requires c κs = search needs
@@ -39,7 +39,7 @@ same-length : tie.Need-same-length Inv-loop μ-loop
 same-length c = search needs
 
 returns : tie.Need-returns Inv-loop μ-loop
-returns c = unsized-stops _ _ _ _ _ _ _ (c .before .before .before .before .before .before .loop .inv .1) _ (c .read-so-far .ensures) _ _ (c .before .before .before .before .word-at .ensures) (c .before .before .before .located .ensures) (inside-false _ (c .before .before .is-inside .ensures) (c .before .if1 .taken))
+returns c = unsized-stops _ _ _ _ _ _ _ (c .before .before .before .before .before .before .loop .inv .1) _ (c .read-so-far .ensures) _ _ (c .before .before .before .before .read-u32 .ensures) (c .before .before .before .located .ensures) (inside-false _ (c .before .before .is-inside .ensures) (c .before .if1 .taken))
 
 take-entry-requires : tie.Need-take-entry-requires Inv-loop μ-loop
 take-entry-requires c κs = search needs
@@ -51,7 +51,7 @@ same-length-2 : tie.Need-same-length-2 Inv-loop μ-loop
 same-length-2 c = search needs
 
 returns-2 : tie.Need-returns-2 Inv-loop μ-loop
-returns-2 c = meets _ _ _ _ _ _ _ (c .before .before .before .before .before .before .before .before .before .before .before .before .before .before .before .loop .inv .1) _ _ _ _ _ _ (c .before .before .before .before .before .before .before .before .before .before .before .before .before .word-at .ensures) (unsized-taken _ _ _ _ _ _ _ (c .before .before .before .before .before .before .before .before .before .before .before .before .before .before .before .loop .inv .1 .live) (c .before .before .before .before .before .before .before .before .before .before .before .before .located .ensures) _ _ (inside-true _ (c .before .before .before .before .before .before .before .before .before .before .before .is-inside .ensures) (c .before .before .before .before .before .before .before .before .before .before .if1 .left)) (c .before .before .before .before .before .before .before .before .take-entry .ensures)) refl (c .before .before .before .before .if2 .taken) (c .before .before .failed .ensures)
+returns-2 c = meets _ _ _ _ _ _ _ (c .before .before .before .before .before .before .before .before .before .before .before .before .before .before .before .loop .inv .1) _ _ _ _ _ _ (c .before .before .before .before .before .before .before .before .before .before .before .before .before .read-u32 .ensures) (unsized-taken _ _ _ _ _ _ _ (c .before .before .before .before .before .before .before .before .before .before .before .before .before .before .before .loop .inv .1 .live) (c .before .before .before .before .before .before .before .before .before .before .before .before .located .ensures) _ _ (inside-true _ (c .before .before .before .before .before .before .before .before .before .before .before .is-inside .ensures) (c .before .before .before .before .before .before .before .before .before .before .if1 .left)) (c .before .before .before .before .before .before .before .before .take-entry .ensures)) refl (c .before .before .before .before .if2 .taken) (c .before .before .failed .ensures)
 
 add-at : tie.Need-add-at Inv-loop μ-loop
 add-at c = search needs
@@ -60,7 +60,7 @@ loop-less : tie.Need-loop-less Inv-loop μ-loop
 loop-less c = omega arith
 
 loop-again : tie.Need-loop-again Inv-loop μ-loop
-loop-again c = (omega arith, reads-on _ _ _ _ _ _ _ (c .before .before .before .before .before .before .before .before .before .before .before .loop .inv .1) _ _ _ (c .before .before .before .before .before .before .before .before .before .word-at .ensures) (unsized-taken _ _ _ _ _ _ _ (c .before .before .before .before .before .before .before .before .before .before .before .loop .inv .1 .live) (c .before .before .before .before .before .before .before .before .located .ensures) _ _ (inside-true _ (c .before .before .before .before .before .before .before .is-inside .ensures) (c .before .before .before .before .before .before .if1 .left)) (c .before .before .before .before .take-entry .ensures)) (c .if2 .left))
+loop-again c = (omega arith, reads-on _ _ _ _ _ _ _ (c .before .before .before .before .before .before .before .before .before .before .before .loop .inv .1) _ _ _ (c .before .before .before .before .before .before .before .before .before .read-u32 .ensures) (unsized-taken _ _ _ _ _ _ _ (c .before .before .before .before .before .before .before .before .before .before .before .loop .inv .1 .live) (c .before .before .before .before .before .before .before .before .located .ensures) _ _ (inside-true _ (c .before .before .before .before .before .before .before .is-inside .ensures) (c .before .before .before .before .before .before .if1 .left)) (c .before .before .before .before .take-entry .ensures)) (c .if2 .left))
 
 read-so-far-requires-2 : tie.Need-read-so-far-requires-2 Inv-loop μ-loop
 read-so-far-requires-2 c κs = search needs
@@ -79,7 +79,7 @@ unsized-entries-spec =
     μ-loop
     loop-holds
     sub-loop
-    word-at-requires
+    read-u32-requires
     located-requires
     is-inside-requires
     read-so-far-requires

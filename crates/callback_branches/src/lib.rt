@@ -1,0 +1,2 @@
+// Words of a walk that branch (FunctionSlices::instruction_callback).
+pub mod branches;
