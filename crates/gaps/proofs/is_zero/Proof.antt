@@ -1,0 +1,27 @@
+use Rattle.gaps.proofs.Alignment.{zero-by, zero-past}
+use native.Mathlib.Omega.{arith}
+use borrow.Author.Needs.{needs}
+use Rattle.gaps.proofs.is_zero.Statement.{statement}
+use Rattle.gaps.proofs.is_zero.Tie as tie
+
+wide-requires : tie.Need-wide-requires
+wide-requires c κs = search needs
+
+add-if1 : tie.Need-add-if1
+add-if1 c = search needs
+
+wide-requires-2 : tie.Need-wide-requires-2
+wide-requires-2 c κs = search needs
+
+word-requires : tie.Need-word-requires
+word-requires c κs = search needs
+
+returns : tie.Need-returns
+returns c = zero-by _ _ _ _ _ (let p = c .before .before .before .wide .ensures .0 in let q = c .before .before .wide2 .ensures .0 in let t = c .before .if1 .taken in omega (arith, p, q, t)) (c .word .ensures)
+
+returns-2 : tie.Need-returns-2
+returns-2 c = zero-past _ _ _ _ (let p = c .before .before .wide .ensures .0 in let q = c .before .wide2 .ensures .0 in let t = c .if1 .left in omega (arith, p, q, t))
+
+pub is-zero-spec : {M : Type 1} → statement M
+is-zero-spec =
+    tie.close (tie.spec wide-requires add-if1 wide-requires-2 word-requires returns returns-2)
