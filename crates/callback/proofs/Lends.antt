@@ -259,14 +259,5 @@ module _ (s b f x n : List ℕ) (a : Around) (e : steps.Around) (o : Of s b f x 
   pub aims-of : (t : Told) → told-for t ≡ images.told-at (e .image) addr → Aims s (t .outcome)
   aims-of t h = aims s b f x n a e o addr t (h ∙ ap (λ (i : Image). images.told-at i addr) (o .is-image))
 
-  pub checked-word : (w : ℕ) (t : Told) (m r : Small) (k v : List ℕ) →
-      ((l : Lent) (k v : List ℕ) → l .bytes ≡ b → IsCode l (a .code) → check-image (lents.given l) ≡ true → t .mark ≡ images.told-at (image l) addr .mark → w ≡ images.word (image l) (address-of addr) → Fit k v m → Listed (steps.check-sequences (image l) addr (view k v m)) k v r) →
-      w ≡ images.word (e .image) (address-of addr) → told-for t ≡ images.told-at (e .image) addr → Fit k v m → Listed (steps.check-sequences (e .image) addr (view k v m)) k v r
-  checked-word w t m r k v g q h fit =
-      rw (o .is-image)
-      (g (o .lent) k v (o .bytes) (o .code) (image-passed s b f x n a e o)
-      (ap (λ (y : images.Told). y .mark) h ∙ ap (λ (i : Image). images.told-at i addr .mark) (o .is-image))
-      (q ∙ ap (λ (i : Image). images.word i (address-of addr)) (o .is-image)) fit)
-
 pub lends-of : (s b f x n : List ℕ) (a : Around) (e : steps.Around) → Of s b f x n a e → Lends s b f x n a
 lends-of s b f x n a e o = record { around = e; of = o }

@@ -164,33 +164,6 @@ unfolding walk-of place-of
 with-lists vis k v k′ v′ w r t e p h =
     rw (e, ← h) (ap (λ (y : List ℕ). record { slices = view k′ v′ t; visited = vis; pending = y; fresh = w .fresh; place = place-of w }) (sym (pending-same k k′ (w .pending) p)))
 
-module _ (e : rules.Around) (vis : ℕ → Bool) (k v : List ℕ) (w : Walk) (addr block : ℕ) (s : Small) (checked : Listed (rules.check-sequences (e .image) addr (view k v (w .small))) k v s) where
-  abbrev Called : List ℕ → List ℕ → Walk → Type 0
-  Called x y z = Is (rules.instruction-callback e addr block (walk-of vis k v w)) vis x y z
-
-  called : (a : Answer Slices) → rules.check-sequences (e .image) addr (walk-of vis k v w .slices) ≡ a → rules.instruction-callback e addr block (walk-of vis k v w) ≡ (a >>= λ x. rules.do-word e addr block (rules.with-slices (walk-of vis k v w) (rules.note-word (e .image) addr x)))
-  unfolding rules.instruction-callback
-  called a h = ap (λ y. y >>= λ x. rules.do-word e addr block (rules.with-slices (walk-of vis k v w) (rules.note-word (e .image) addr x))) h
-
-  told : rules.check-sequences (e .image) addr (walk-of vis k v w .slices) ≡ if (eqb (s .fault) 0) (ok (view k v s)) (fault (s .fault))
-  unfolding walk-of
-  told = checked .is
-
-  pub called-fails : (r : Walk) → (s .fault ≡ 0 → ⊥) → r ≡ with-small w s → Called k v r
-  unfolding _>>=_
-  called-fails r n h = rw (called (fault (s .fault)) (told ∙ if-false (ne-eqb _ _ n) _ _)) (is-fault vis k v r (rw h refl) n)
-
-  pub called-on : (k′ v′ k″ v″ : List ℕ) (t : Small) (r q : Walk) → s .fault ≡ 0 → lists.Is (ok (rules.note-word (e .image) addr (view k v s))) k k′ v′ t → r ≡ with-small w t → Is (rules.do-word e addr block (walk-of vis k′ v′ r)) vis k″ v″ q → Called k″ v″ q
-  unfolding _>>=_
-  called-on k′ v′ k″ v″ t r q z i h j =
-      rw (called (ok (view k v s)) (told ∙ if-true (eq-eqb _ _ z) _ _), relisted (i .pending) h (i .told .same)) j
-    where
-      relisted : drop 1920 k′ ≡ drop 1920 k → r ≡ with-small w t → {x : Slices} → view k′ v′ t ≡ x → rules.with-slices (walk-of vis k v w) x ≡ walk-of vis k′ v′ r
-      relisted p y f = with-lists vis k v k′ v′ w r t y p f
-
-pub going-noted : (k v k′ v′ : List ℕ) (w r : Walk) (t : Small) → Going k v w → Fit k′ v′ t × (t .fault ≡ 0) → r ≡ with-small w t → Going k′ v′ r
-going-noted k v k′ v′ w r t g f h = rw h (record { fits = record { lists = f .0; few = g .fits .few; placed = g .fits .placed }; fine = f .1 })
-
 -- ---- kinds of outcomes
 
 pub kind-go-on : (u : Outcome) → kind u ≡ 0 → u ≡ GoOn

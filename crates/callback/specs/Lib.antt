@@ -1,3 +1,4 @@
 pub use Rattle.callback_around.specs.Around
 pub mod AfterBlock
+pub mod Noted
 pub mod Lends

@@ -17,6 +17,7 @@ ghost use Rattle.executor.specs.Bits.{bit};
 ghost use Rattle.walk.specs.State.{walk-of, Going, Is, Listed};
 ghost use Rattle.callback_around.specs.Around.{Inside};
 ghost use Rattle.callback.specs.AfterBlock.{after-block};
+ghost use Rattle.callback.specs.Noted.{plain, noted, Noting, Notes};
 ghost use Rattle.callback.specs.Lends.{Lends, LendsAll, Meets, Of, At, Aims, kind};
 use callback_around::around::Around;
 use callback_around::around::is_known_function;
@@ -65,6 +66,42 @@ fn note_word(k: &mut [u64], v: &mut [u64], s: lists::Small, addr: u64, word: u32
     t.conditional = s.conditional | ppc::words::is_conditional_blr(word);
     t.rfi = s.rfi | ppc::words::is_rfi(word);
     lists::discard_possible(k, v, t, addr)
+}
+
+// A word by whose primary opcode it begins no sequence, loads no r1 and is no return: most words are such.
+fn is_plain(word: u32) -> bool
+    ensures { λ r. ⌜ r ≡ plain word ⌝ }
+{
+    let op = ppc::fields::opcode(word);
+    (op != 19) & (op != 31) & (op != 32) & (op != 37)
+}
+
+// What is noted of a word before it does what it does. Nothing is copied for a plain word.
+fn note(
+    bytes: &[u8],
+    k: &mut [u64],
+    v: &mut [u64],
+    code: obj::sections::Code,
+    w: walk::Walk,
+    addr: u64,
+    word: u32,
+    mark: bool,
+) -> walk::Walk
+    requires bytes { ⌜ InBytes (now bytes) code ⌝ }
+    requires at { ⌜ At code addr ⌝ }
+    requires going { ⌜ Going (now k) (now v) w ⌝ }
+    requires meets { ⌜ Notes (now bytes) code addr word mark ⌝ }
+    ensures { λ r. ⌜ ((l : Lent) (vis : ℕ → Bool) → Noting l (now (bytes .entry)) code addr word mark → Is (noted (image l) addr (walk-of vis (now (k .entry)) (now (v .entry)) w)) vis (now (k .exit)) (now (v .exit)) r) ⌝ }
+{
+    if is_plain(word) & (w.small.possible == 0) {
+        return w;
+    }
+    let s = check_word(bytes, code, w.small, addr, word, mark);
+    if s.fault != 0 {
+        return walk::with_small(w, s);
+    }
+    let t = note_word(k, v, s, addr, word);
+    walk::with_small(w, t)
 }
 
 // What is left of an outcome after its block has ended.
@@ -249,12 +286,10 @@ fn meet_word(
     requires at { ⌜ At (a .code) addr ⌝ }
     ensures { λ r. ⌜ ((e : rules.Around) → Of (now (sections .entry)) (now (bytes .entry)) (now (functions .entry)) (now (objects .entry)) (now (known .entry)) a e → word ≡ images.word (e .image) (address-of addr) → told-for told ≡ images.told-at (e .image) addr → Is (rules.instruction-callback e addr block (walk-of (bit (now (visited .entry))) (now (k .entry)) (now (v .entry)) w)) (bit (now (visited .entry))) (now (k .exit)) (now (v .exit)) r) ⌝ }
 {
-    let s = check_word(bytes, a.code, w.small, addr, word, told.mark);
-    if s.fault != 0 {
-        return walk::with_small(w, s);
+    let r = note(bytes, k, v, a.code, w, addr, word, told.mark);
+    if r.small.fault != 0 {
+        return r;
     }
-    let t = note_word(k, v, s, addr, word);
-    let r = walk::with_small(w, t);
     let outcome = told.outcome;
     do_word(
         sections,

@@ -1,0 +1,220 @@
+-- Words of which nothing is noted, and what is noted of the others.
+use Prim.Native.Nat.{ℕ, zero, suc, _+_, _-_, _/_, _%_, _≤_, _<_}
+use mathlib.Core.Path.{_≡_, refl, sym, ap, _∙_}
+use mathlib.Core.Bool.{Bool, true, false, _&&_, _||_, not, or-false}
+use mathlib.Core.List.{List, [], _∷_}
+use native.Mathlib.Omega.{arith}
+use lib.Dec.{eqb, leb, ltb}
+use lib.ListN.{length, take, drop, getD}
+use borrow.Author.Tests.{eq-eqb, ne-eqb, eqb-true, le-leb, lt-ltb, not-true}
+use Rattle.rules.specs.Choice.{if, if-true, if-false, Answer, ok, fault, _>>=_}
+use Rattle.rules.specs.Address.{address-of}
+use Rattle.rules.specs.Words as words
+use Rattle.rules.specs.Sequences as sequences
+use Rattle.rules.specs.Image as images
+use Rattle.rules.specs.Image.{Image, code-section}
+use Rattle.rules.specs.Ordered.{self, without}
+use Rattle.rules.specs.Slices.{Slices, discard-possible, with-returns, with-possible}
+use Rattle.rules.specs.Step as rules
+use Rattle.rules.proofs.Tests.{and-left, and-right}
+use Rattle.lists.specs.View as lists
+use Rattle.lists.specs.View.{view, Fit}
+use Rattle.lists.specs.declared.Small.{Small}
+use Rattle.walk.specs.State.{walk-of, with-small, Fits, Going, Is, Listed}
+use Rattle.walk.specs.declared.Walk.{Walk}
+use Rattle.walk.proofs.Answers.{is-ok, is-fault, stopped, onward}
+use Rattle.callback_around.specs.declared.around.Around.{Around}
+use Rattle.callback.specs.Noted.{plain, noted, Noting, Notes}
+use Rattle.callback.specs.Lends.{Of, At, Meets}
+use Rattle.callback.proofs.Lends.{image-passed}
+use Rattle.obj.specs.Lent.{Lent, image}
+use Rattle.obj.specs.Outcomes.{told-for}
+use Rattle.obj.specs.declared.sections.Code.{Code}
+use Rattle.obj.specs.declared.outcomes.Told.{Told}
+use Rattle.callback.proofs.WordCases.{with-lists}
+
+-- ---- by the primary opcode
+
+module _ (w : ℕ) (h : plain w ≡ true) where
+  four : (not (eqb (words.primary w) 19) && not (eqb (words.primary w) 31) && not (eqb (words.primary w) 32) && not (eqb (words.primary w) 37)) ≡ true
+  unfolding plain
+  four = h
+
+  not-19 : eqb (words.primary w) 19 ≡ false
+  not-19 = not-true _ (and-left _ _ (and-left _ _ (and-left _ _ four)))
+
+  not-31 : eqb (words.primary w) 31 ≡ false
+  not-31 = not-true _ (and-right (not (eqb (words.primary w) 19)) _ (and-left _ _ (and-left _ _ four)))
+
+  not-32 : eqb (words.primary w) 32 ≡ false
+  not-32 = not-true _ (and-right (not (eqb (words.primary w) 19) && not (eqb (words.primary w) 31)) _ (and-left _ _ four))
+
+  not-37 : eqb (words.primary w) 37 ≡ false
+  not-37 = not-true _ (and-right (not (eqb (words.primary w) 19) && not (eqb (words.primary w) 31) && not (eqb (words.primary w) 32)) _ four)
+
+  no-lwz : words.is-lwz w ≡ false
+  unfolding words.is-lwz
+  no-lwz = rw not-32 refl
+
+  no-stwu : words.is-stwu w ≡ false
+  unfolding words.is-stwu
+  no-stwu = rw (not-37, not-31) refl
+
+  no-mflr : words.is-mflr w ≡ false
+  unfolding words.is-mflr
+  no-mflr = rw not-31 refl
+
+  no-mtlr : words.is-mtlr w ≡ false
+  unfolding words.is-mtlr
+  no-mtlr = rw not-31 refl
+
+  no-or : words.is-or w ≡ false
+  unfolding words.is-or
+  no-or = rw not-31 refl
+
+  no-rfi : words.is-rfi w ≡ false
+  unfolding words.is-rfi
+  no-rfi = rw not-19 refl
+
+  no-blr : words.is-conditional-blr w ≡ false
+  unfolding words.is-conditional-blr
+  no-blr = rw not-19 refl
+
+  no-prologue : (ws : List ℕ) → sequences.check-prologue-sequence (w ∷ ws) ≡ false
+  unfolding sequences.check-prologue-sequence sequences.prologue-pairs
+  no-prologue ws = rw (no-stwu, no-mflr) refl
+
+  no-epilogue : (ws : List ℕ) → sequences.check-epilogue-sequence (w ∷ ws) ≡ false
+  unfolding sequences.check-epilogue-sequence sequences.epilogue-pairs
+  no-epilogue ws = rw (no-mtlr, no-or) refl
+
+  -- no list that begins with it begins a sequence; nor does an empty one
+  from-drop : (f : List ℕ → Bool) → f [] ≡ false → ((ws : List ℕ) → f (w ∷ ws) ≡ false) → (l : List ℕ) (i d : ℕ) → w ≡ getD l i d → f (drop i l) ≡ false
+  from-drop f e g [] zero d q = e
+  from-drop f e g [] (suc i) d q = e
+  from-drop f e g (x ∷ l) zero d q = ap (λ (y : ℕ). f (y ∷ l)) (sym q) ∙ g l
+  from-drop f e g (x ∷ l) (suc i) d q = from-drop f e g l i d q
+
+empty-prologue : sequences.check-prologue-sequence [] ≡ false
+unfolding sequences.check-prologue-sequence sequences.prologue-pairs
+empty-prologue = refl
+
+empty-epilogue : sequences.check-epilogue-sequence [] ≡ false
+unfolding sequences.check-epilogue-sequence sequences.epilogue-pairs
+empty-epilogue = refl
+
+-- ---- a word of the image
+
+module _ (im : Image) (addr w : ℕ) (inside : images.contains (code-section im) (address-of addr) ≡ true) (is-w : w ≡ images.word im (address-of addr)) (h : plain w ≡ true) where
+  here : w ≡ getD (code-section im .words) (images.index im addr) images.no-word
+  unfolding images.word images.index
+  here =
+      let m : address-of (address-of addr) ≡ address-of addr = omega arith in
+      is-w ∙ if-true inside _ _ ∙ ap (λ (a : ℕ). getD (code-section im .words) ((a - code-section im .base) / 4) images.no-word) m
+
+  quiet-prologue : sequences.check-prologue-sequence (images.words-from im addr) ≡ false
+  unfolding images.words-from
+  quiet-prologue = from-drop w h sequences.check-prologue-sequence empty-prologue (no-prologue w h) (code-section im .words) (images.index im addr) images.no-word here
+
+  quiet-epilogue : sequences.check-epilogue-sequence (images.words-from im addr) ≡ false
+  unfolding images.words-from
+  quiet-epilogue = from-drop w h sequences.check-epilogue-sequence empty-epilogue (no-epilogue w h) (code-section im .words) (images.index im addr) images.no-word here
+
+  epilogue-kept : (s : Slices) → rules.check-epilogue im addr s ≡ ok s
+  unfolding rules.check-epilogue
+  epilogue-kept s = if-false quiet-epilogue _ _
+
+  prologue-kept : (s : Slices) → rules.check-prologue im addr s ≡ ok s
+  unfolding rules.check-prologue
+  prologue-kept s = if-false (ap words.is-lwz (sym is-w) ∙ no-lwz w h) _ _ ∙ if-false quiet-prologue _ _
+
+  sequences-kept : (s : Slices) → rules.check-sequences im addr s ≡ ok s
+  unfolding rules.check-sequences _>>=_
+  sequences-kept s = by (images.told-at im addr .mark)
+    where
+      by : (b : Bool) → if b (rules.check-epilogue im addr s) (rules.check-prologue im addr s >>= λ t. rules.check-epilogue im addr t) ≡ ok s
+      by true = unfold if in epilogue-kept s
+      by false = unfold if in rw (prologue-kept s) (epilogue-kept s)
+
+  same-fields : (s : Slices) (c r : Bool) (p : List ℕ) → c ≡ s .conditional-blr → r ≡ s .rfi → p ≡ s .possible → with-possible (with-returns s c r) p ≡ s
+  same-fields s c r p a b d = rw (a, b, d) refl
+
+  note-kept : (s : Slices) → s .possible ≡ [] → rules.note-word im addr s ≡ s
+  unfolding rules.note-word discard-possible
+  note-kept s e =
+      same-fields s _ _ _ (ap (λ (y : ℕ). s .conditional-blr || words.is-conditional-blr y) (sym is-w) ∙ ap (λ (b : Bool). s .conditional-blr || b) (no-blr w h) ∙ or-false (s .conditional-blr))
+      (ap (λ (y : ℕ). s .rfi || words.is-rfi y) (sym is-w) ∙ ap (λ (b : Bool). s .rfi || b) (no-rfi w h) ∙ or-false (s .rfi)) (ap (without self addr) e ∙ sym e)
+
+  module _ (vis : ℕ → Bool) (k v : List ℕ) (t : Walk) (g : Going k v t) where
+    pub plain-noted : t .small .possible ≡ 0 → Is (noted im addr (walk-of vis k v t)) vis k v t
+    unfolding noted _>>=_
+    plain-noted z =
+        rw (sequences-kept (walk-of vis k v t .slices), note-kept (walk-of vis k v t .slices) (unfold walk-of view in ap (λ (n : ℕ). take n (lists.part 1792 128 k)) z))
+        (is-ok vis k v t refl (g .fine) (g .fits))
+
+-- ---- others
+
+module _ (im : Image) (addr : ℕ) (vis : ℕ → Bool) (k v : List ℕ) (w : Walk) (s : Small) (checked : Listed (rules.check-sequences im addr (view k v (w .small))) k v s) where
+  told : rules.check-sequences im addr (walk-of vis k v w .slices) ≡ if (eqb (s .fault) 0) (ok (view k v s)) (fault (s .fault))
+  unfolding walk-of
+  told = checked .is
+
+  pub noted-fails : (r : Walk) → (s .fault ≡ 0 → ⊥) → r ≡ with-small w s → Is (noted im addr (walk-of vis k v w)) vis k v r
+  unfolding noted _>>=_
+  noted-fails r n h = rw (told ∙ if-false (ne-eqb _ _ n) _ _) (is-fault vis k v r (rw h refl) n)
+
+  pub noted-on : Going k v w → (k′ v′ : List ℕ) (t : Small) (r : Walk) → s .fault ≡ 0 → Fit k′ v′ t × (t .fault ≡ 0) → lists.Is (ok (rules.note-word im addr (view k v s))) k k′ v′ t → r ≡ with-small w t → Is (noted im addr (walk-of vis k v w)) vis k′ v′ r
+  unfolding noted _>>=_
+  noted-on g k′ v′ t r z f i h =
+      rw (told ∙ if-true (eq-eqb _ _ z) _ _)
+      (is-ok vis k′ v′ r (with-lists vis k v k′ v′ w r t h (i .pending) (i .told .same)) (rw h (f .1))
+      (rw h (record { lists = f .0; few = g .fits .few; placed = g .fits .placed })))
+
+-- ---- and then what the word does
+
+module _ (e : rules.Around) (addr block : ℕ) (vis : ℕ → Bool) (k v k′ v′ : List ℕ) (w r : Walk) (i : Is (noted (e .image) addr (walk-of vis k v w)) vis k′ v′ r) where
+  split : rules.instruction-callback e addr block (walk-of vis k v w) ≡ (noted (e .image) addr (walk-of vis k v w) >>= rules.do-word e addr block)
+  unfolding rules.instruction-callback noted
+  split = by (rules.check-sequences (e .image) addr (walk-of vis k v w .slices))
+    where
+      by : (a : Answer Slices) → (a >>= λ s. rules.do-word e addr block (rules.with-slices (walk-of vis k v w) (rules.note-word (e .image) addr s))) ≡ ((a >>= λ s. ok (rules.with-slices (walk-of vis k v w) (rules.note-word (e .image) addr s))) >>= rules.do-word e addr block)
+      by (ok x) = unfold _>>=_ in refl
+      by (fault n) = unfold _>>=_ in refl
+
+  pub word-fails : (r .small .fault ≡ 0 → ⊥) → Is (rules.instruction-callback e addr block (walk-of vis k v w)) vis k′ v′ r
+  word-fails n = rw split (stopped vis k′ v′ r (rules.do-word e addr block) i n)
+
+  pub word-does : (k″ v″ : List ℕ) (q : Walk) → r .small .fault ≡ 0 → Is (rules.do-word e addr block (walk-of vis k′ v′ r)) vis k″ v″ q → Is (rules.instruction-callback e addr block (walk-of vis k v w)) vis k″ v″ q
+  word-does k″ v″ q z j = rw split (onward vis vis k′ v′ k″ v″ r q _ (rules.do-word e addr block) i z j)
+
+-- ---- of the lent lists
+
+module _ (l : Lent) (b : List ℕ) (c : Code) (addr word : ℕ) (mark : Bool) (q : Noting l b c addr word mark) (at : At c addr) where
+  inside-code : images.contains (code-section (image l)) (address-of addr) ≡ true
+  inside-code =
+      rw (← q .code .base, ← q .code .size, le-leb (c .base) (address-of addr) (at .above), lt-ltb (address-of addr) (c .base + c .size) (at .below)) refl
+
+  pub note-plain : (p : Bool) (vis : ℕ → Bool) (k v : List ℕ) (t : Walk) → p ≡ plain word → Going k v t → (p && eqb (t .small .possible) 0) ≡ true → Is (noted (image l) addr (walk-of vis k v t)) vis k v t
+  note-plain p vis k v t e g h =
+      plain-noted (image l) addr word inside-code (q .is-word) (sym e ∙ and-left _ _ h) vis k v t g (eqb-true _ _ (and-right p _ h))
+
+module _ (s b f x n : List ℕ) (a : Around) (e : rules.Around) (o : Of s b f x n a e) (addr word : ℕ) (t : Told) (is-word : word ≡ images.word (e .image) (address-of addr)) (is-told : told-for t ≡ images.told-at (e .image) addr) where
+  pub noting-of : Noting (o .lent) b (a .code) addr word (t .mark)
+  noting-of =
+      record {
+        bytes = o .bytes;
+        code = o .code;
+        passed = image-passed s b f x n a e o;
+        is-mark = ap (λ (y : images.Told). y .mark) is-told ∙ ap (λ (i : Image). images.told-at i addr .mark) (o .is-image);
+        is-word = is-word ∙ ap (λ (i : Image). images.word i (address-of addr)) (o .is-image);
+      }
+
+  pub noted-of : (vis : ℕ → Bool) (k v k′ v′ : List ℕ) (w r : Walk) → ((l : Lent) (vis : ℕ → Bool) → Noting l b (a .code) addr word (t .mark) → Is (noted (image l) addr (walk-of vis k v w)) vis k′ v′ r) → Is (noted (e .image) addr (walk-of vis k v w)) vis k′ v′ r
+  noted-of vis k v k′ v′ w r g = rw (o .is-image) (g (o .lent) vis noting-of)
+
+pub notes-of : (s b f x n : List ℕ) (a : Around) (addr word : ℕ) (t : Told) → Meets s b f x n a addr word t → Notes b (a .code) addr word (t .mark)
+notes-of s b f x n a addr word t m = record { lent = m .of .lent; noting = noting-of s b f x n a (m .around) (m .of) addr word t (m .is-word) (m .is-told) }
+
+pub plain-by : (w op : ℕ) → op ≡ words.primary w → (not (eqb op 19) && not (eqb op 31) && not (eqb op 32) && not (eqb op 37)) ≡ plain w
+unfolding plain
+plain-by w op e = rw e refl
