@@ -1,5 +1,5 @@
 -- The settling of one possible block, case by case.
-use Prim.Native.Nat.{ℕ, _+_, _-_, _/_, _<_}
+use Prim.Native.Nat.{ℕ, _+_, _-_}
 use mathlib.Core.Path.{_≡_, refl, sym, ap, _∙_}
 use mathlib.Core.Bool.{Bool, true, false, false≢true, not, _||_}
 use mathlib.Core.List.{List}
@@ -7,7 +7,7 @@ use native.Mathlib.Omega.{arith}
 use lib.Dec.{ltb, eqb}
 use borrow.Author.Tests.{eq-eqb, ne-eqb, eqb-true}
 use Rattle.rules.specs.Choice.{if, if-true, if-false, Answer, ok, fault, _>>=_}
-use Rattle.rules.specs.Loop.{cases, Holds, good, none, holds-at, map-holds, if-holds, trivial}
+use Rattle.rules.specs.Loop.{cases, Holds, good, holds-at, map-holds, if-holds, trivial}
 use Rattle.rules.specs.Address.{address-of, section-of}
 use Rattle.rules.specs.Image as images
 use Rattle.rules.specs.Ordered.{self, upper}
@@ -167,7 +167,7 @@ module _ (e : steps.Around) (low : ℕ) (last : Bool) (k v k₁ v₁ : List ℕ)
   step-on k′ v′ r z i =
       record { is = stepped ∙ ap (λ m. m >>= λ w. rules.settle e low last addr (w .answer) (w .slices)) (decided z) ∙ i .is; fits = i .fits }
 
--- so four more than its address is one too
+-- so it has a section's number of at most 15
 pub possible-low : (e : steps.Around) (k v k₁ v₁ : List ℕ) (s : Small) (addr start : ℕ) (j : Judged) → Decides (calls.check-tail-call e addr (view k v s)) k k₁ v₁ j → j .small .fault ≡ 0 → e .start ≡ start → Low start → j .answer ≡ Possible → Low addr
 possible-low e k v k₁ v₁ s addr start j d z q l h =
     let p : calls.check-tail-call e addr (view k v s) ≡ calls.verdict (answer-of (j .answer)) (view k₁ v₁ (j .small)) = d .is ∙ if-true (eq-eqb _ _ z) _ _ in

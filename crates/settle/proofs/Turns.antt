@@ -1,14 +1,14 @@
 -- The loop over possible blocks: what is left to do comes to the same, and less is left to settle.
 use Prim.Native.Nat.{ℕ, _+_, _-_, _*_, _≤_, _<_}
 use mathlib.Core.Path.{_≡_, refl, sym, ap, _∙_}
-use mathlib.Core.Bool.{Bool, true, false, not}
+use mathlib.Core.Bool.{Bool, true, false}
 use mathlib.Core.List.{List}
 use native.Mathlib.Omega.{arith}
 use lib.ListN.{length, take}
 use lib.Seq.{length-take-le}
-use lib.Dec.{leb, eqb}
+use lib.Dec.{leb}
 use borrow.Author.Tests.{eq-eqb, ne-eqb}
-use Rattle.rules.specs.Choice.{Answer, ok, _>>=_, filter}
+use Rattle.rules.specs.Choice.{ok, _>>=_, filter}
 use Rattle.rules.specs.Loop.{holds-at, loop-stop}
 use Rattle.rules.specs.Ordered.{self, upper}
 use Rattle.rules.specs.Step as steps
@@ -20,7 +20,7 @@ use Rattle.lists.proofs.Parts.{part-length}
 use Rattle.callback.specs.Lends.{Of, LendsAll}
 use Rattle.callback_around.specs.declared.around.Around.{Around}
 use Rattle.slices.proofs.Loops.{aimed-of}
-use Rattle.settle.specs.Settled.{settling-of, settled, IsSettling}
+use Rattle.settle.specs.Settled.{settling-of, IsSettling}
 use Rattle.settle.specs.declared.Settling.{Settling}
 use Rattle.settle.proofs.Cases.{settled-ok, settled-fault, stays}
 

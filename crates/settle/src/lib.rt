@@ -1,8 +1,7 @@
 // Possible blocks settled, the lowest first: each is the function's, or a function of its own, or stays possible.
 ghost use mathlib.Core.Path.{_≡_};
 ghost use mathlib.Core.Bool.{Bool};
-ghost use mathlib.Core.List.{List};
-ghost use Prim.Native.Nat.{ℕ, _<_, _+_};
+ghost use Prim.Native.Nat.{ℕ};
 ghost use Rattle.rules.specs.Slices.{add-reference, discard-possible};
 ghost use Rattle.rules.specs.Step as steps;
 ghost use Rattle.rules.specs.Settle as rules;
@@ -62,8 +61,8 @@ fn refer(k: &mut [u64], v: &mut [u64], s: lists::Small, addr: u64, current: u64)
     requires fit { ⌜ Fit (now k) (now v) s × (s .fault ≡ 0) ⌝ }
     ensures { λ r. ⌜ IsSettling (looking (add-reference addr (discard-possible addr (view (now (k .entry)) (now (v .entry)) s))) current) (now (k .exit)) (now (v .exit)) r ⌝ }
 {
-    let t = lists::discard_possible(k, v, s, addr);
-    let small = lists::add_reference(k, v, t, addr);
+    let others = lists::discard_possible(k, v, s, addr);
+    let small = lists::add_reference(k, v, others, addr);
     Settling { small, current }
 }
 
@@ -108,7 +107,8 @@ fn pass(
     Settling { small: s, current }
 }
 
-// The possible block at addr is settled by the answer of its tail-call test.
+// The possible block at addr is settled by the answer of its tail-call test. One that may be either lies in the function's section,
+// so four more than its address is no overflow.
 fn settle(
     sections: &[u32],
     bytes: &[u8],
@@ -164,7 +164,7 @@ fn settle(
     }
 }
 
-// The next possible block is tested and settled.
+// The next possible block is tested and settled; what a fault of the test leaves is not looked at again.
 fn settle_step(
     sections: &[u32],
     bytes: &[u8],
