@@ -1,0 +1,272 @@
+// Possible blocks settled, the lowest first: each is the function's, or a function of its own, or stays possible.
+ghost use mathlib.Core.Path.{_≡_};
+ghost use mathlib.Core.Bool.{Bool};
+ghost use Prim.Native.Nat.{ℕ};
+ghost use Rattle.rules.specs.Slices.{add-reference, discard-possible};
+ghost use Rattle.rules.specs.Step as steps;
+ghost use Rattle.rules.specs.Settle as rules;
+ghost use Rattle.lists.specs.View.{view, Fit};
+ghost use Rattle.walk.specs.State.{Low};
+ghost use Rattle.callback.specs.Lends.{LendsAll, Of};
+ghost use Rattle.tail_calls.specs.Judged.{answer-of};
+ghost use Rattle.tail_calls.specs.declared.TailCall.the-variants.{Possible};
+ghost use Rattle.settle.specs.Settled.{settling-of, looking, IsSettling};
+
+// A function's lists, and from where possible blocks are looked at.
+pub struct Settling {
+    pub small: lists::Small,
+    pub current: u64,
+}
+
+// The possible block at addr is walked as one of the function's.
+fn include(
+    sections: &[u32],
+    bytes: &[u8],
+    outcomes: &[u32],
+    functions: &[u32],
+    objects: &[u32],
+    known: &[u64],
+    k: &mut [u64],
+    v: &mut [u64],
+    a: callback::around::Around,
+    s: lists::Small,
+    addr: u64,
+    current: u64,
+) -> Settling
+    requires lends { ⌜ LendsAll (now sections) (now bytes) (now outcomes) (now functions) (now objects) (now known) a ⌝ }
+    requires fit { ⌜ Fit (now k) (now v) s × (s .fault ≡ 0) ⌝ }
+    requires low { ⌜ Low (a .end) ⌝ }
+    ensures { λ r. ⌜ ((e : steps.Around) (o : Of (now (sections .entry)) (now (bytes .entry)) (now (functions .entry)) (now (objects .entry)) (now (known .entry)) a e) → o .lent .outcomes ≡ now (outcomes .entry) → (low : ℕ) (last : Bool) → IsSettling (looking (rules.include e low last addr (view (now (k .entry)) (now (v .entry)) s)) current) (now (k .exit)) (now (v .exit)) r) ⌝ }
+{
+    let t = lists::discard_possible(k, v, s, addr);
+    let r = analyze::analyze(
+        sections,
+        bytes,
+        outcomes,
+        functions,
+        objects,
+        known,
+        k,
+        v,
+        a,
+        t,
+        addr,
+    );
+    let small = r.small;
+    Settling { small, current }
+}
+
+// The possible block at addr is a function of its own, which is referred to.
+fn refer(k: &mut [u64], v: &mut [u64], s: lists::Small, addr: u64, current: u64) -> Settling
+    requires fit { ⌜ Fit (now k) (now v) s × (s .fault ≡ 0) ⌝ }
+    ensures { λ r. ⌜ IsSettling (looking (add-reference addr (discard-possible addr (view (now (k .entry)) (now (v .entry)) s))) current) (now (k .exit)) (now (v .exit)) r ⌝ }
+{
+    let others = lists::discard_possible(k, v, s, addr);
+    let small = lists::add_reference(k, v, others, addr);
+    Settling { small, current }
+}
+
+// The block at addr stays possible; in the last pass it is one of the function's.
+fn pass(
+    sections: &[u32],
+    bytes: &[u8],
+    outcomes: &[u32],
+    functions: &[u32],
+    objects: &[u32],
+    known: &[u64],
+    k: &mut [u64],
+    v: &mut [u64],
+    a: callback::around::Around,
+    s: lists::Small,
+    addr: u64,
+    last: bool,
+) -> Settling
+    requires lends { ⌜ LendsAll (now sections) (now bytes) (now outcomes) (now functions) (now objects) (now known) a ⌝ }
+    requires fit { ⌜ Fit (now k) (now v) s × (s .fault ≡ 0) ⌝ }
+    requires low { ⌜ Low (a .end) ⌝ }
+    requires near { ⌜ Low addr ⌝ }
+    ensures { λ r. ⌜ ((e : steps.Around) (o : Of (now (sections .entry)) (now (bytes .entry)) (now (functions .entry)) (now (objects .entry)) (now (known .entry)) a e) → o .lent .outcomes ≡ now (outcomes .entry) → (low : ℕ) → IsSettling (rules.settle e low last addr (answer-of Possible) (view (now (k .entry)) (now (v .entry)) s)) (now (k .exit)) (now (v .exit)) r) ⌝ }
+{
+    let current = addr + 4;
+    if last {
+        return include(
+            sections,
+            bytes,
+            outcomes,
+            functions,
+            objects,
+            known,
+            k,
+            v,
+            a,
+            s,
+            addr,
+            current,
+        );
+    }
+    Settling { small: s, current }
+}
+
+// The possible block at addr is settled by the answer of its tail-call test. One that may be either lies in the function's section,
+// so four more than its address is no overflow.
+fn settle(
+    sections: &[u32],
+    bytes: &[u8],
+    outcomes: &[u32],
+    functions: &[u32],
+    objects: &[u32],
+    known: &[u64],
+    k: &mut [u64],
+    v: &mut [u64],
+    a: callback::around::Around,
+    s: lists::Small,
+    addr: u64,
+    answer: tail_calls::TailCall,
+    low: u64,
+    last: bool,
+) -> Settling
+    requires lends { ⌜ LendsAll (now sections) (now bytes) (now outcomes) (now functions) (now objects) (now known) a ⌝ }
+    requires fit { ⌜ Fit (now k) (now v) s × (s .fault ≡ 0) ⌝ }
+    requires low { ⌜ Low (a .end) ⌝ }
+    requires near { ⌜ (answer ≡ Possible → Low addr) ⌝ }
+    ensures { λ r. ⌜ ((e : steps.Around) (o : Of (now (sections .entry)) (now (bytes .entry)) (now (functions .entry)) (now (objects .entry)) (now (known .entry)) a e) → o .lent .outcomes ≡ now (outcomes .entry) → IsSettling (rules.settle e low last addr (answer-of answer) (view (now (k .entry)) (now (v .entry)) s)) (now (k .exit)) (now (v .exit)) r) ⌝ }
+{
+    match answer {
+        tail_calls::TailCall::Not => include(
+            sections,
+            bytes,
+            outcomes,
+            functions,
+            objects,
+            known,
+            k,
+            v,
+            a,
+            s,
+            addr,
+            low,
+        ),
+        tail_calls::TailCall::Is => refer(k, v, s, addr, low),
+        tail_calls::TailCall::Possible => pass(
+            sections,
+            bytes,
+            outcomes,
+            functions,
+            objects,
+            known,
+            k,
+            v,
+            a,
+            s,
+            addr,
+            last,
+        ),
+    }
+}
+
+// The next possible block is tested and settled; what a fault of the test leaves is not looked at again.
+fn settle_step(
+    sections: &[u32],
+    bytes: &[u8],
+    outcomes: &[u32],
+    functions: &[u32],
+    objects: &[u32],
+    known: &[u64],
+    k: &mut [u64],
+    v: &mut [u64],
+    a: callback::around::Around,
+    t: Settling,
+    low: u64,
+    last: bool,
+) -> Settling
+    requires lends { ⌜ LendsAll (now sections) (now bytes) (now outcomes) (now functions) (now objects) (now known) a ⌝ }
+    requires fit { ⌜ Fit (now k) (now v) (t .small) × (t .small .fault ≡ 0) ⌝ }
+    requires low { ⌜ Low (a .end) × Low (a .start) ⌝ }
+    ensures { λ r. ⌜ ((e : steps.Around) (o : Of (now (sections .entry)) (now (bytes .entry)) (now (functions .entry)) (now (objects .entry)) (now (known .entry)) a e) → o .lent .outcomes ≡ now (outcomes .entry) → IsSettling (rules.settle-step e low last (settling-of (now (k .entry)) (now (v .entry)) t)) (now (k .exit)) (now (v .exit)) r) ⌝ }
+{
+    let s = t.small;
+    let addr = lists::next_possible(k, v, s, t.current);
+    let judged = trials::check_tail_call(
+        sections,
+        bytes,
+        outcomes,
+        functions,
+        objects,
+        known,
+        k,
+        v,
+        a,
+        s,
+        addr,
+    );
+    let small = judged.small;
+    let answer = judged.answer;
+    if small.fault != 0 {
+        return Settling {
+            small,
+            current: low,
+        };
+    }
+    settle(
+        sections,
+        bytes,
+        outcomes,
+        functions,
+        objects,
+        known,
+        k,
+        v,
+        a,
+        small,
+        addr,
+        answer,
+        low,
+        last,
+    )
+}
+
+// All possible blocks are settled that can be, from low, the section's lowest address; last: whether this is the last pass.
+pub fn settle_all(
+    sections: &[u32],
+    bytes: &[u8],
+    outcomes: &[u32],
+    functions: &[u32],
+    objects: &[u32],
+    known: &[u64],
+    k: &mut [u64],
+    v: &mut [u64],
+    a: callback::around::Around,
+    s: lists::Small,
+    low: u64,
+    last: bool,
+) -> Settling
+    requires lends { ⌜ LendsAll (now sections) (now bytes) (now outcomes) (now functions) (now objects) (now known) a ⌝ }
+    requires fit { ⌜ Fit (now k) (now v) s × (s .fault ≡ 0) ⌝ }
+    requires low { ⌜ Low (a .end) × Low (a .start) ⌝ }
+    ensures { λ r. ⌜ ((e : steps.Around) (o : Of (now (sections .entry)) (now (bytes .entry)) (now (functions .entry)) (now (objects .entry)) (now (known .entry)) a e) → o .lent .outcomes ≡ now (outcomes .entry) → IsSettling (rules.settle-all e low last (rules.settling (view (now (k .entry)) (now (v .entry)) s) low)) (now (k .exit)) (now (v .exit)) r) ⌝ }
+{
+    let mut t = Settling {
+        small: s,
+        current: low,
+    };
+    while lists::next_possible(k, v, t.small, t.current) != 0 {
+        t = settle_step(
+            sections,
+            bytes,
+            outcomes,
+            functions,
+            objects,
+            known,
+            k,
+            v,
+            a,
+            t,
+            low,
+            last,
+        );
+        if t.small.fault != 0 {
+            return t;
+        }
+    }
+    t
+}
