@@ -1,0 +1,4 @@
+pub mod Places
+pub mod Loading
+pub mod Rows
+pub mod Offsets

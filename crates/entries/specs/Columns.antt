@@ -1,0 +1,85 @@
+-- A function's lists as columns of numbers, and where each column stands among its numbers.
+use mathlib.Core.Path.{_≡_}
+use mathlib.Core.List.{List, map}
+use Prim.Native.Nat.{ℕ, _+_, _≤_}
+use lib.ListN.{length, drop}
+use Rattle.rules.specs.Blocks.{startOf}
+use Rattle.rules.specs.Slices.{Slices, addressOf, count-ways}
+use Rattle.rules.specs.OneFunction.{endOf, sizeOf, way-froms, way-tos}
+use Rattle.lists.specs.View.{Parts, parts-of, part, lists-of, Held}
+use Rattle.lists.specs.declared.Small.{Small}
+
+-- how many elements each list has, and what is no list
+abbrev pub small-of : Slices → Small
+small-of s =
+    record { blocks = length (s .blocks); ways = count-ways (s .ways); references = length (s .references); tables = length (s .tables); possible = length (s .possible); prologue = s .prologue; epilogue = s .epilogue; conditional = s .conditional-blr; rfi = s .rfi; load = s .r1-load; finalized = s .finalized; fault = 0 }
+
+abbrev pub columns-of : Slices → Parts
+columns-of s =
+    parts-of (map startOf (s .blocks)) (map endOf (s .blocks)) (way-froms (s .ways)) (way-tos (s .ways)) (s .references) (map addressOf (s .tables))
+    (map sizeOf (s .tables)) (s .possible)
+
+-- lists within their limits, ascending, that their columns tell whole
+pub record Right (s : Slices) : Type 0 where
+  pub held : Held (columns-of s) (small-of s)
+  pub same : lists-of (columns-of s) (small-of s) ≡ s
+
+-- ---- the place of each column
+
+module _ (s : Small) where
+  abbrev pub at-froms : ℕ
+  at-froms = s .blocks + s .blocks
+
+  abbrev pub at-tos : ℕ
+  at-tos = at-froms + s .ways
+
+  abbrev pub at-references : ℕ
+  at-references = at-tos + s .ways
+
+  abbrev pub at-addresses : ℕ
+  at-addresses = at-references + s .references
+
+  abbrev pub at-sizes : ℕ
+  at-sizes = at-addresses + s .tables
+
+  abbrev pub at-possible : ℕ
+  at-possible = at-sizes + s .tables
+
+  -- how many numbers there are
+  abbrev pub numbers-long : ℕ
+  numbers-long = at-possible + s .possible
+
+  -- the columns that a list of numbers is made of
+  abbrev pub cut : List ℕ → Parts
+  cut l =
+      parts-of (part 0 (s .blocks) l) (part (s .blocks) (s .blocks) l) (part at-froms (s .ways) l) (part at-tos (s .ways) l)
+      (part at-references (s .references) l) (part at-addresses (s .tables) l) (part at-sizes (s .tables) l) (part at-possible (s .possible) l)
+
+  -- the lists that the numbers are
+  abbrev pub slices-from : List ℕ → Slices
+  slices-from l = lists-of (cut l) s
+
+-- each count is within its limit
+pub record Limits (s : Small) : Type 0 where
+  pub blocks-fit : s .blocks ≤ 256
+  pub ways-fit : s .ways ≤ 1024
+  pub references-fit : s .references ≤ 256
+  pub tables-fit : s .tables ≤ 256
+  pub possible-fit : s .possible ≤ 128
+
+-- the keys of the numbers l stand in k′, and what is pending is as it was in k
+pub record Keys (s : Small) (l k k′ : List ℕ) : Type 0 where
+  pub size : length k′ ≡ length k
+  pub starts : part 0 (s .blocks) k′ ≡ part 0 (s .blocks) l
+  pub froms : part 256 (s .ways) k′ ≡ part (at-froms s) (s .ways) l
+  pub references : part 1280 (s .references) k′ ≡ part (at-references s) (s .references) l
+  pub addresses : part 1536 (s .tables) k′ ≡ part (at-addresses s) (s .tables) l
+  pub possible : part 1792 (s .possible) k′ ≡ part (at-possible s) (s .possible) l
+  pub pending : drop 1920 k′ ≡ drop 1920 k
+
+-- the values of the numbers l stand in v′
+pub record Values (s : Small) (l v v′ : List ℕ) : Type 0 where
+  pub size : length v′ ≡ length v
+  pub ends : part 0 (s .blocks) v′ ≡ part (s .blocks) (s .blocks) l
+  pub tos : part 256 (s .ways) v′ ≡ part (at-tos s) (s .ways) l
+  pub sizes : part 1280 (s .tables) v′ ≡ part (at-sizes s) (s .tables) l
