@@ -7,6 +7,7 @@
 import collections
 import sys
 
+sys.dont_write_bytecode = True
 from asked import MOST, Asked, key
 from drawn import (ADDI_R1, BCTR, BCTRL, BEQ, BLR, CONDITIONAL_BLR, LOADS_R1, MFLR, MTLR, NOP, OR_FROM_R1, OR_TO_R1, RFI, STWU, STWUX, STW_R0,
                    drawn)

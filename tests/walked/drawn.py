@@ -6,6 +6,7 @@
 import random
 import sys
 
+sys.dont_write_bytecode = True
 from asked import MOST, Asked, key
 from lists import (BSS, CODE, DATA, ELSEWHERE, GO_ON, ILLEGAL, JUMP, LINK, LIST, RETURN, RODATA, TABLE, TO_ADDRESS, TO_TABLE, UNKNOWN,
                    Image, Section)

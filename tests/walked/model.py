@@ -5,6 +5,7 @@
 """
 import sys
 
+sys.dont_write_bytecode = True
 from asked import parts, read, rows
 from expected import image_of, load, number_of
 

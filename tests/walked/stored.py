@@ -12,6 +12,7 @@ import collections
 import subprocess
 import sys
 
+sys.dont_write_bytecode = True
 from asked import answers, parts
 from cases import all_cases
 from expected import image_of, load, number_of
