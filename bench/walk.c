@@ -8,13 +8,14 @@
 
 /* A slice is passed as a pointer and then a length. */
 size_t timed_walk(const uint32_t *sections, size_t sections_len, const uint8_t *bytes, size_t bytes_len, const uint32_t *outcomes,
-                  size_t outcomes_len, uint64_t start);
+                  size_t outcomes_len, const uint32_t *none, size_t none_len, const uint64_t *known, size_t known_len, uint64_t start);
 
 enum { WORDS = 65536 };
 static const uint32_t base = 0x80003000u;
 
 static uint32_t sections[4] = {1, 0x80003000u, 4 * WORDS, 4 * WORDS}, outcomes[6 * WORDS];
 static uint8_t bytes[4 * WORDS];
+static uint64_t known[1];
 
 static double now(void) {
     struct timespec t;
@@ -32,7 +33,7 @@ static void fill(void) {
 }
 
 static size_t walk(void) {
-    return timed_walk(sections, 4, bytes, 4 * WORDS, outcomes, 6 * WORDS, ((uint64_t)1 << 32) + base);
+    return timed_walk(sections, 4, bytes, 4 * WORDS, outcomes, 6 * WORDS, sections, 0, known, 0, ((uint64_t)1 << 32) + base);
 }
 
 int main(int argc, char **argv) {
