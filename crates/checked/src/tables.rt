@@ -198,27 +198,17 @@ fn print_image(
     }
 }
 
-// The numbers from one index up to another.
-fn part(numbers: &[u32], from: usize, to: usize) -> &[u32] {
-    if from <= to {
-        if to <= numbers.len() {
-            return &numbers[from..to];
-        }
-    }
-    &numbers[0..0]
-}
-
 // Takes the numbers apart into the lists of an image, of which list i lies from `from[i]` up to `to[i]`.
-pub fn print_parts(numbers: &[u32], bytes: &[u8], n: usize, from: [usize; 8], to: [usize; 8]) {
+pub fn print_parts(numbers: &[u32], bytes: &[u8], n: usize, from: [usize; 9], to: [usize; 9]) {
     if n <= bytes.len() {
         print_image(
-            part(numbers, from[0], to[0]),
+            lines::part(numbers, from[0], to[0]),
             &bytes[0..n],
-            part(numbers, from[1], to[1]),
-            part(numbers, from[2], to[2]),
-            part(numbers, from[3], to[3]),
-            part(numbers, from[4], to[4]),
-            part(numbers, from[5], to[5]),
+            lines::part(numbers, from[1], to[1]),
+            lines::part(numbers, from[2], to[2]),
+            lines::part(numbers, from[3], to[3]),
+            lines::part(numbers, from[4], to[4]),
+            lines::part(numbers, from[5], to[5]),
         );
     }
 }

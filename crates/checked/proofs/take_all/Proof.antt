@@ -21,6 +21,12 @@ shared-slice-read-take c = omega arith
 take-requires : tie.Need-take-requires Inv-loop μ-loop
 take-requires c κs = search needs
 
+answer-requires : tie.Need-answer-requires Inv-loop μ-loop
+answer-requires c κs = search needs
+
+fresh-requires : tie.Need-fresh-requires Inv-loop μ-loop
+fresh-requires c κs = search needs
+
 add-i : tie.Need-add-i Inv-loop μ-loop
 add-i c = omega arith
 
@@ -42,6 +48,8 @@ take-all-spec =
     loop-holds
     shared-slice-read-take
     take-requires
+    answer-requires
+    fresh-requires
     add-i
     loop-less
     loop-again

@@ -1,10 +1,10 @@
--- `checked::lines::end_of`: 400,000 numbers, each 2^32 - 1 times, are fewer than 2^64.
+-- `lines::end_of`: 400,000 numbers, each 2^32 - 1 times, are fewer than 2^64.
 use Prim.Native.Nat.{_-_}
 use native.Mathlib.Nat.{mul-le-mul}
 use native.Mathlib.Omega.{arith}
 use borrow.Author.Needs.{needs}
-use Rattle.checked.proofs.lines.end_of.Statement.{statement}
-use Rattle.checked.proofs.lines.end_of.Tie as tie
+use Rattle.lines.proofs.end_of.Statement.{statement}
+use Rattle.lines.proofs.end_of.Tie as tie
 
 mul-result : tie.Need-mul-result
 mul-result c = omega (arith, mul-le-mul {n₁ = c .before .before .args .n - c .before .before .args .line} {m₁ = c .before .before .args .count} {n₂ = 400000} {m₂ = 4294967295} (omega arith) (omega arith))

@@ -1,9 +1,9 @@
--- `checked::lines::repeat_bytes` is safe and ends: the index goes up to the end.
+-- `lines::repeat_bytes` is safe and ends: the index goes up to the end.
 use Prim.Native.Nat.{_≤_, _-_}
 use native.Mathlib.Omega.{arith}
 use borrow.Author.Needs.{needs}
-use Rattle.checked.proofs.lines.repeat_bytes.Statement.{statement}
-use Rattle.checked.proofs.lines.repeat_bytes.Tie as tie
+use Rattle.lines.proofs.repeat_bytes.Statement.{statement}
+use Rattle.lines.proofs.repeat_bytes.Tie as tie
 
 abbrev Inv-loop : tie.InvT-loop
 Inv-loop bytes₀ line n count end width i₀ bytes i = n ≤ i

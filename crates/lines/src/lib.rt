@@ -1,5 +1,17 @@
-// The lines of an image, a byte at a time: numbers are put at the end of its lists, and the line `=` has it answered.
-use crate::tables::print_parts;
+// The text in which the test programs read the lists that are lent for an image, a byte at a time.
+//
+// An image is lines of text, ended by a line `=`. A line that begins with `#` is a remark. Any other line begins with the letter of a
+// list, and puts numbers at that list's end, so the lists are lent as they stand, rows that are not whole too:
+//
+//   s  sections     o  outcomes     f  functions     j  objects     k  skips     e  entry     b  bytes
+//   n  known functions     w  walks (both for the program `walked` alone)
+//
+// Numbers are hexadecimal, in small letters, of up to eight digits, with spaces between them; bytes have two digits each, and need no
+// spaces. `*` and a hexadecimal count at the end of a line say how often the line's numbers come in all. The lines of a list of
+// numbers stand together.
+//
+// An image with a line that is not of this form, or that no `=` ends, is told by `?`; one with more than 400,000 numbers or 300,000
+// bytes by `!`.
 
 // Where the next byte stands: at a line's start, among the line's numbers, in the count behind `*`, in a remark, behind `=`, or in
 // a line that is not of the format.
@@ -16,7 +28,10 @@ const ENDED: u32 = 4;
 const WRONG: u32 = 5;
 
 // The list of bytes; the others, of numbers, come before it.
-const BYTES: usize = 6;
+const BYTES: usize = 8;
+
+// No list.
+const NONE: usize = 9;
 
 // Room for 65,537 outcomes, the longest symbol lists that can be told from too long ones, and the rest.
 pub type Numbers = [u32; 400000];
@@ -35,13 +50,14 @@ pub struct State {
     digits: u32,
     // how many numbers and how many bytes there are
     numbers: usize,
-    bytes: usize,
-    // whether anything of the image was read, a line was not of the format, an array was too short
+    pub bytes: usize,
+    // whether anything of the image was read, the line `=` was, a line was not of the format, an array was too short
     open: bool,
+    pub ended: bool,
     bad: bool,
     full: bool,
-    from: [usize; 8],
-    to: [usize; 8],
+    pub from: [usize; 9],
+    pub to: [usize; 9],
 }
 
 pub fn fresh() -> State {
@@ -54,10 +70,11 @@ pub fn fresh() -> State {
         numbers: 0,
         bytes: 0,
         open: false,
+        ended: false,
         bad: false,
         full: false,
-        from: [0; 8],
-        to: [0; 8],
+        from: [0; 9],
+        to: [0; 9],
     }
 }
 
@@ -87,7 +104,7 @@ fn value_of(b: u8) -> u32 {
     16
 }
 
-// The list that a letter names; 7 for none.
+// The list that a letter names.
 fn list_of(b: u8) -> usize {
     match b {
         b's' => 0,
@@ -96,8 +113,10 @@ fn list_of(b: u8) -> usize {
         b'j' => 3,
         b'k' => 4,
         b'e' => 5,
+        b'n' => 6,
+        b'w' => 7,
         b'b' => BYTES,
-        _ => 7,
+        _ => NONE,
     }
 }
 
@@ -108,7 +127,7 @@ fn begin_list(s: State, list: usize) -> State {
     if list == r.list {
         return r;
     }
-    if list < 7 {
+    if list < NONE {
         if r.from[list] < r.to[list] {
             return wrong(r);
         }
@@ -258,26 +277,11 @@ fn end_count(numbers: &mut Numbers, bytes: &mut Bytes, s: State) -> State {
     r
 }
 
-// The image is whole: it is answered. A line that is not of the format comes before too little room.
-fn answer(numbers: &mut Numbers, bytes: &mut Bytes, s: State) {
-    if s.bad {
-        io::write_all(1, b"?\n");
-        return;
-    }
-    if s.full {
-        io::write_all(1, b"!\n");
-        return;
-    }
-    let from = s.from;
-    let to = s.to;
-    print_parts(numbers, bytes, s.bytes, from, to);
-}
-
 // A line of a list ends, which reaches as far as there are numbers.
 fn end_list(s: State) -> State {
     let mut r = at(s, START);
     let list = r.list;
-    if list < 7 {
+    if list < NONE {
         r.to[list] = r.numbers;
     }
     r
@@ -287,9 +291,9 @@ fn end_list(s: State) -> State {
 fn end_line(numbers: &mut Numbers, bytes: &mut Bytes, s: State) -> State {
     let place = s.place;
     if place == ENDED {
-        answer(numbers, bytes, s);
-        io::write_all(1, b"=\n");
-        return fresh();
+        let mut r = s;
+        r.ended = true;
+        return r;
     }
     if place == AMONG {
         return end_list(put_number(numbers, s));
@@ -303,7 +307,7 @@ fn end_line(numbers: &mut Numbers, bytes: &mut Bytes, s: State) -> State {
     r
 }
 
-// A byte of the input.
+// A byte of the input. After the line `=` the image is ended; the next one begins with `fresh`.
 pub fn take(numbers: &mut Numbers, bytes: &mut Bytes, s: State, b: u8) -> State {
     if b == b'\n' {
         return end_line(numbers, bytes, s);
@@ -324,9 +328,32 @@ pub fn take(numbers: &mut Numbers, bytes: &mut Bytes, s: State, b: u8) -> State 
     wrong(s)
 }
 
+// Whether an ended image is not to be answered, which is told. A line that is not of the format comes before too little room.
+pub fn refused(s: State) -> bool {
+    if s.bad {
+        io::write_all(1, b"?\n");
+        return true;
+    }
+    if s.full {
+        io::write_all(1, b"!\n");
+        return true;
+    }
+    false
+}
+
 // The input ends. An image that no line `=` ended gets no other answer.
 pub fn end_input(s: State) {
     if s.open {
         io::write_all(1, b"?\n=\n");
     }
+}
+
+// The numbers from one index up to another.
+pub fn part(numbers: &[u32], from: usize, to: usize) -> &[u32] {
+    if from <= to {
+        if to <= numbers.len() {
+            return &numbers[from..to];
+        }
+    }
+    &numbers[0..0]
 }

@@ -1,0 +1,65 @@
+// Makes the walks that are asked of each image of its input, by `one_function::walk_function`, and prints what comes of them.
+//
+// The crate `lines` has the form in which an image is read. A walk is five numbers of the list `w`: its start, its end, each with the
+// section before the address, and the length of the list that is lent for its result, up to 4,096. A known function is four numbers of
+// the list `n`: its entry and its end in the same way. Sections are counted from 1 here; 0 0 is no end.
+//
+// Printed are for each walk `R` and its number and, where that is 0:
+//
+//   A  1 if there is a function, else 0; prologue; epilogue; digits for a conditional `blr`, `rfi`, a load of r1
+//   B  start and end of a block
+//   C  a way on: from, to
+//   X  a reference
+//   J  address and size of a jump table
+//   P  a possible block
+//
+// An address has nine digits, its section's before the others; `-` is none. Last comes `L`: `zero` where the lent list is zero past what
+// was stored or, after 1 to 3, `untouched` where it is as it was before; else `changed`. `=` ends an image's walks.
+mod walks;
+
+use lines::Bytes;
+use lines::Numbers;
+use lines::State;
+
+// An ended image is answered.
+fn answer(numbers: &mut Numbers, bytes: &mut Bytes, s: State) {
+    if !lines::refused(s) {
+        let from = s.from;
+        let to = s.to;
+        walks::print_parts(numbers, bytes, s.bytes, from, to);
+    }
+    io::write_all(1, b"=\n");
+}
+
+fn take_all(numbers: &mut Numbers, bytes: &mut Bytes, s: State, text: &[u8]) -> State {
+    let mut r = s;
+    let mut i: usize = 0;
+    while i < text.len() {
+        r = lines::take(numbers, bytes, r, text[i]);
+        if r.ended {
+            answer(numbers, bytes, r);
+            r = lines::fresh();
+        }
+        i += 1;
+    }
+    r
+}
+
+fn main() {
+    let mut numbers: Numbers = [0; 400000];
+    let mut bytes: Bytes = [0; 300000];
+    let mut s = lines::fresh();
+    // The input is taken in parts; a million of them are four gigabytes.
+    let mut turn: usize = 0;
+    while turn < 1000000 {
+        let mut space = io::buffer();
+        let got = libc::read(0, &mut space);
+        if got <= 0 {
+            break;
+        }
+        let n = io::count(got, &space);
+        s = take_all(&mut numbers, &mut bytes, s, &space[..n]);
+        turn += 1;
+    }
+    lines::end_input(s);
+}

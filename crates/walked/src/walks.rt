@@ -1,0 +1,330 @@
+// The walks of an image, and their lines.
+ghost use mathlib.Core.Path.{_≡_};
+ghost use Prim.Native.Nat.{_≤_};
+ghost use lib.ListN.{length};
+use one_function::Function;
+
+// The longest list that is lent for a result.
+const MOST: usize = 4096;
+
+// What the lent list holds before a walk at the index i: no zero, and nothing twice.
+fn filled(i: usize) -> u64 {
+    std::num::wrapping_add_u64(0x5A5A_0000_0000, i as u64)
+}
+
+fn prefill(list: &mut [u64; 4096])
+    requires { ⌜ length (now list) ≡ 4096 ⌝ }
+    ensures { λ r. ⌜ length (now (list .exit)) ≡ 4096 ⌝ }
+{
+    let mut i: usize = 0;
+    while i < 4096 {
+        list[i] = filled(i);
+        i += 1;
+    }
+}
+
+// ---- lines
+
+fn print_key(k: u64) {
+    if k == 0 {
+        io::write_all(1, b" -");
+    } else {
+        io::write_all(1, b" ");
+        io::print_hex(1, k, 9);
+    }
+}
+
+fn print_digit(b: bool) {
+    if b {
+        io::write_all(1, b"1");
+    } else {
+        io::write_all(1, b"0");
+    }
+}
+
+fn print_number(n: u32) {
+    io::write_all(1, b"R ");
+    if n < 10 {
+        io::write_all(1, b"0");
+    }
+    io::print_decimal(1, obj::sections::wide(n));
+    io::write_all(1, b"\n");
+}
+
+// What is no list.
+fn print_function(r: Function) {
+    io::write_all(1, b"A ");
+    print_digit(r.found);
+    print_key(r.prologue);
+    print_key(r.epilogue);
+    io::write_all(1, b" ");
+    print_digit(r.conditional);
+    print_digit(r.rfi);
+    print_digit(r.load);
+    io::write_all(1, b"\n");
+}
+
+// The element at an index; 0 where there is none.
+fn element(list: &[u64], i: usize) -> u64 {
+    if i < list.len() {
+        return list[i];
+    }
+    0
+}
+
+// A column of n elements that begins at an index; the place past it.
+fn print_column(name: &[u8], list: &[u64], at: usize, n: usize) -> usize {
+    let mut i: usize = 0;
+    while i < n {
+        io::write_all(1, name);
+        print_key(element(list, std::num::wrapping_add_usize(at, i)));
+        io::write_all(1, b"\n");
+        i += 1;
+    }
+    std::num::wrapping_add_usize(at, n)
+}
+
+// Two such columns, one behind the other; the place past them.
+fn print_columns(name: &[u8], list: &[u64], at: usize, n: usize) -> usize {
+    let second = std::num::wrapping_add_usize(at, n);
+    let mut i: usize = 0;
+    while i < n {
+        io::write_all(1, name);
+        print_key(element(list, std::num::wrapping_add_usize(at, i)));
+        print_key(element(list, std::num::wrapping_add_usize(second, i)));
+        io::write_all(1, b"\n");
+        i += 1;
+    }
+    std::num::wrapping_add_usize(second, n)
+}
+
+// The same for jump tables, whose sizes have eight digits.
+fn print_tables(list: &[u64], at: usize, n: usize) -> usize {
+    let second = std::num::wrapping_add_usize(at, n);
+    let mut i: usize = 0;
+    while i < n {
+        io::write_all(1, b"J");
+        print_key(element(list, std::num::wrapping_add_usize(at, i)));
+        io::write_all(1, b" ");
+        io::print_hex(1, element(list, std::num::wrapping_add_usize(second, i)), 8);
+        io::write_all(1, b"\n");
+        i += 1;
+    }
+    std::num::wrapping_add_usize(second, n)
+}
+
+// All lists; the place past them.
+fn print_lists(list: &[u64], r: Function) -> usize {
+    let ways = print_columns(b"B", list, 0, r.blocks);
+    let references = print_columns(b"C", list, ways, r.ways);
+    let tables = print_column(b"X", list, references, r.references);
+    let possible = print_tables(list, tables, r.tables);
+    print_column(b"P", list, possible, r.possible)
+}
+
+// ---- the lent list
+
+fn is_zero_from(list: &[u64], at: usize) -> bool {
+    let mut i = at;
+    while i < list.len() {
+        if list[i] != 0 {
+            return false;
+        }
+        i += 1;
+    }
+    true
+}
+
+fn is_untouched(list: &[u64]) -> bool {
+    let mut i: usize = 0;
+    while i < list.len() {
+        if list[i] != filled(i) {
+            return false;
+        }
+        i += 1;
+    }
+    true
+}
+
+fn print_rest(number: u32, list: &[u64], past: usize) {
+    if number == 1 || number == 2 || number == 3 {
+        if is_untouched(list) {
+            io::write_all(1, b"L untouched\n");
+            return;
+        }
+    } else {
+        if is_zero_from(list, past) {
+            io::write_all(1, b"L zero\n");
+            return;
+        }
+    }
+    io::write_all(1, b"L changed\n");
+}
+
+// ---- walks
+
+// Whether a refusal says nothing else.
+fn is_bare(r: Function) -> bool {
+    let counts = r.blocks | r.ways | r.references | r.tables | r.possible;
+    let places = r.prologue | r.epilogue;
+    let flags = r.found | r.conditional | r.rfi | r.load;
+    counts == 0 && places == 0 && !flags
+}
+
+fn print_walk(r: Function, list: &[u64]) {
+    print_number(r.number);
+    let mut past: usize = 0;
+    if r.number == 0 || !is_bare(r) {
+        print_function(r);
+        past = print_lists(list, r);
+    }
+    print_rest(r.number, list, past);
+}
+
+fn key(high: u32, low: u32) -> u64 {
+    obj::sections::wide(high) * 0x1_0000_0000 + obj::sections::wide(low)
+}
+
+// The keys that a list's halves make, as far as there is room; how many.
+fn join(halves: &[u32], keys: &mut [u64; 4096]) -> usize
+    requires { ⌜ length (now keys) ≡ 4096 ⌝ }
+    ensures { λ r. ⌜ (r ≤ 4096) × (length (now (keys .exit)) ≡ 4096) ⌝ }
+{
+    let mut at: usize = 0;
+    let mut n: usize = 0;
+    while 2 <= halves.len() - at {
+        if 4096 <= n {
+            return n;
+        }
+        keys[n] = key(halves[at], halves[at + 1]);
+        at += 2;
+        n += 1;
+    }
+    n
+}
+
+// The length that is lent of the list.
+fn room_of(n: u32) -> usize
+    ensures { λ r. ⌜ r ≤ 4096 ⌝ }
+{
+    let r = n as usize;
+    if r < MOST {
+        return r;
+    }
+    MOST
+}
+
+fn make_walk(
+    sections: &[u32],
+    bytes: &[u8],
+    outcomes: &[u32],
+    functions: &[u32],
+    objects: &[u32],
+    skips: &[u32],
+    entry: &[u32],
+    known: &[u64],
+    start: u64,
+    end: u64,
+    list: &mut [u64],
+) {
+    let r = one_function::walk_function(
+        sections,
+        bytes,
+        outcomes,
+        functions,
+        objects,
+        skips,
+        entry,
+        known,
+        start,
+        end,
+        list,
+    );
+    print_walk(r, list);
+}
+
+// The walk that five numbers ask for.
+fn make_asked(
+    sections: &[u32],
+    bytes: &[u8],
+    outcomes: &[u32],
+    functions: &[u32],
+    objects: &[u32],
+    skips: &[u32],
+    entry: &[u32],
+    known: &[u64],
+    walk: [u32; 5],
+) {
+    let start = key(walk[0], walk[1]);
+    let end = key(walk[2], walk[3]);
+    let room = room_of(walk[4]);
+    let mut list: [u64; 4096] = [0; 4096];
+    prefill(&mut list);
+    make_walk(
+        sections,
+        bytes,
+        outcomes,
+        functions,
+        objects,
+        skips,
+        entry,
+        known,
+        start,
+        end,
+        &mut list[..room],
+    );
+}
+
+fn make_walks(
+    sections: &[u32],
+    bytes: &[u8],
+    outcomes: &[u32],
+    functions: &[u32],
+    objects: &[u32],
+    skips: &[u32],
+    entry: &[u32],
+    halves: &[u32],
+    walks: &[u32],
+) {
+    let mut known: [u64; 4096] = [0; 4096];
+    let n = join(halves, &mut known);
+    let mut at: usize = 0;
+    while 5 <= walks.len() - at {
+        let walk = [
+            walks[at],
+            walks[at + 1],
+            walks[at + 2],
+            walks[at + 3],
+            walks[at + 4],
+        ];
+        make_asked(
+            sections,
+            bytes,
+            outcomes,
+            functions,
+            objects,
+            skips,
+            entry,
+            &known[..n],
+            walk,
+        );
+        at += 5;
+    }
+}
+
+// Takes the numbers apart into the lists of an image, of which list i lies from `from[i]` up to `to[i]`.
+pub fn print_parts(numbers: &[u32], bytes: &[u8], n: usize, from: [usize; 9], to: [usize; 9]) {
+    if n <= bytes.len() {
+        make_walks(
+            lines::part(numbers, from[0], to[0]),
+            &bytes[0..n],
+            lines::part(numbers, from[1], to[1]),
+            lines::part(numbers, from[2], to[2]),
+            lines::part(numbers, from[3], to[3]),
+            lines::part(numbers, from[4], to[4]),
+            lines::part(numbers, from[5], to[5]),
+            lines::part(numbers, from[6], to[6]),
+            lines::part(numbers, from[7], to[7]),
+        );
+    }
+}

@@ -1,0 +1,58 @@
+//! Runs the unchanged Rust on lent lists, with `VM::step` answered from the outcomes.
+//!
+//!     oracle walks [--explain] < IMAGES    the walks of images in the text of the program `walked`; with --explain, the Rust's own
+//!                                          words for each fault on standard error
+//!     oracle time RUNS                     times `FunctionSlices::analyze` of 65,536 straight words: best and mean in nanoseconds
+#![allow(dead_code, unused, unreachable_pub, mismatched_lifetime_syntaxes)]
+
+mod analysis;
+mod obj;
+mod util;
+
+mod faults;
+mod lists;
+mod walks;
+
+use std::io::{Read, Write};
+
+use lists::Lists;
+use walks::Walks;
+
+fn walks(explain: bool) -> std::io::Result<()> {
+    let mut text = String::new();
+    std::io::stdin().read_to_string(&mut text)?;
+    let mut printed = std::io::BufWriter::new(std::io::stdout().lock());
+    let lines: Vec<&str> = text.lines().collect();
+    for image in lines.split_inclusive(|l| *l == "=") {
+        let lines = image.iter().copied().filter(|l| *l != "=");
+        let mut out = String::new();
+        match Lists::read(lines).map(Walks::new) {
+            Some(image) => image.asked().for_each(|walk| image.answer(&mut out, &walk, explain).unwrap()),
+            None => out.push_str("?\n"),
+        }
+        writeln!(printed, "{out}=")?;
+    }
+    Ok(())
+}
+
+fn time(runs: u32) {
+    log::set_max_level(log::LevelFilter::Off);
+    let lines = ["s 1 80003000 40000 40000", "b 38630001 *ffff", "b 4e800020", "o 0 0 0 0 0 0 *ffff", "o 3 0 0 0 0 0"];
+    let image = Walks::new(Lists::read(lines.into_iter()).unwrap());
+    let took: Vec<u128> = (0..runs).map(|_| image.timed()).collect();
+    println!("{} {}", took.iter().min().unwrap(), took.iter().sum::<u128>() / runs as u128);
+}
+
+fn main() -> std::io::Result<()> {
+    faults::watch();
+    let args: Vec<String> = std::env::args().skip(1).collect();
+    match args.iter().map(String::as_str).collect::<Vec<_>>()[..] {
+        ["walks"] => walks(false),
+        ["walks", "--explain"] => walks(true),
+        ["time", runs] => Ok(time(runs.parse().expect("a number of runs"))),
+        _ => {
+            eprintln!("usage: oracle walks [--explain] | time RUNS");
+            std::process::exit(2);
+        }
+    }
+}

@@ -1,0 +1,3 @@
+//! Stand-in: `ObjInfo` holds two, which stay empty.
+#[derive(Debug, Clone, Default)]
+pub struct AddressRanges;

@@ -1,0 +1,3 @@
+//! Stand-in: a type of which `ObjInfo` holds none.
+#[derive(Debug, Clone)]
+pub struct MWComment;
