@@ -1,5 +1,5 @@
-/* Times the walk of one function of 65,536 words by the proved library: `timed RUNS` prints the best and the mean in nanoseconds. Built
-   and run by bench/walk. */
+/* Times the walk of one function of 65,536 words by the proved library: `timed RUNS` prints the best and the mean in
+   nanoseconds, and the best of the checks alone, which are a part of the walk. Built and run by bench/walk. */
 #include <stddef.h>
 #include <stdint.h>
 #include <stdio.h>
@@ -9,6 +9,9 @@
 /* A slice is passed as a pointer and then a length. */
 size_t timed_walk(const uint32_t *sections, size_t sections_len, const uint8_t *bytes, size_t bytes_len, const uint32_t *outcomes,
                   size_t outcomes_len, const uint32_t *none, size_t none_len, const uint64_t *known, size_t known_len, uint64_t start);
+
+uint32_t timed_check(const uint32_t *sections, size_t sections_len, const uint8_t *bytes, size_t bytes_len, const uint32_t *outcomes,
+                     size_t outcomes_len, const uint32_t *none, size_t none_len);
 
 enum { WORDS = 65536 };
 static const uint32_t base = 0x80003000u;
@@ -51,6 +54,17 @@ int main(int argc, char **argv) {
         if (took < best) best = took;
         sum += took;
     }
-    printf("%.0f %.0f\n", best, sum / runs);
+    double least = 1e18;
+    for (int i = 0; i < runs; i++) {
+        double from = now();
+        uint32_t number = timed_check(sections, 4, bytes, 4 * WORDS, outcomes, 6 * WORDS, sections, 0);
+        double took = now() - from;
+        if (number != 0) {
+            fprintf(stderr, "the image is refused under %u\n", number);
+            return 1;
+        }
+        if (took < least) least = took;
+    }
+    printf("%.0f %.0f %.0f\n", best, sum / runs, least);
     return 0;
 }
