@@ -125,7 +125,7 @@ module _ (f : Entry → List ℕ) (es : List Entry) (i : ℕ) (h : i < length es
   pub flat-at : flat f es ≡ flat f (take i es) ++ (f (getD es i (new-entry 0)) ++ flat f (drop (suc i) es))
   flat-at = ap (flat f) (split-at es i (new-entry 0) h) ∙ flat-append f (take i es) (getD es i (new-entry 0) ∷ drop (suc i) es)
 
-  pub rest : List ℕ → List ℕ
+  unfoldable pub rest : List ℕ → List ℕ
   rest xs = flat f (drop (suc i) es) ++ drop (length (flat f es)) xs
 
   pub form-at : (xs : List ℕ) → Begins (flat f es) xs → xs ≡ flat f (take i es) ++ (f (getD es i (new-entry 0)) ++ rest xs)

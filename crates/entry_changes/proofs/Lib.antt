@@ -1,2 +1,5 @@
 pub mod Splicing
 pub mod Adding
+pub mod Telling
+pub mod Storing
+pub mod Answers

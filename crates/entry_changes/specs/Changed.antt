@@ -3,17 +3,19 @@ use mathlib.Core.Path.{_≡_}
 use mathlib.Core.Bool.{true}
 use mathlib.Core.List.{List}
 use mathlib.Core.Option.{some}
-use Prim.Native.Nat.{ℕ, _+_, _-_, _*_}
-use lib.ListN.{length, drop, getD, set}
-use Rattle.rules.specs.Choice.{Answer, ok, fault, _>>=_}
-use Rattle.rules.specs.Ordered.{rank, has, put, upper, insert-at}
-use Rattle.rules.specs.Blocks.{Block, block}
+use Prim.Native.Nat.{ℕ, suc, _+_}
+use lib.ListN.{length, take, drop, getD}
+use lib.Dec.{leb}
+use Rattle.rules.specs.Choice.{if, Answer, ok, fault, _>>=_}
+use Rattle.rules.specs.Ordered.{rank, has, put, upper}
+use Rattle.rules.specs.Blocks.{Block}
 use Rattle.rules.specs.Slices.{Slices}
 use Rattle.rules.specs.Known.{Entry, entryOf, new-entry}
 use Rattle.rules.specs.Map.{Capacity, add-entry}
 use Rattle.known.specs.Table.{known-rows}
-use Rattle.entries.specs.Table.{Told}
+use Rattle.entries.specs.Table.{entry-numbers, flat, odd, Told}
 use Rattle.entry_changes.specs.declared.Added.{Added}
+use Rattle.entry_changes.specs.declared.Span.{Span}
 
 -- an entry analyzed, with its end and lists
 abbrev pub analyzed-entry : ℕ → ℕ → Slices → Entry
@@ -41,3 +43,17 @@ pub record IsAdded (a : Answer (List Entry)) (k : ℕ) (known infos lists : List
 -- the entry at k added if there is none, with the end given
 unfoldable pub end-set : Capacity → ℕ → ℕ → List Entry → Answer (List Entry)
 end-set cap k end es = add-entry cap k es >>= λ fs. ok (put entryOf (with-end end (upper entryOf k (new-entry k) fs)) fs)
+
+-- where the numbers of entry i begin and end, and where all the numbers end
+pub record IsSpan (es : List Entry) (i : ℕ) (r : Span) : Type 0 where
+  pub at : r .at ≡ length (flat entry-numbers (take i es))
+  pub until : r .until ≡ r .at + length (entry-numbers (getD es i (new-entry 0)))
+  pub total : r .total ≡ r .until + length (flat entry-numbers (drop (suc i) es))
+
+-- 4 where the numbers of all the entries do not fit
+abbrev pub fitted : ℕ → List Entry → Answer (List Entry)
+fitted room es = if (leb (length (flat entry-numbers es)) room) (ok es) (fault 4)
+
+-- flags of an entry that is analyzed
+abbrev pub marked : ℕ → ℕ
+marked f = if (odd f) f (f + 1)

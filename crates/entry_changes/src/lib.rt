@@ -1,16 +1,19 @@
 // The entries of the map in lent slices, changed: an entry added, its lists stored, its end set, or set aside.
 ghost use mathlib.Core.Path.{_≡_};
-ghost use mathlib.Core.List.{List, _++_};
+ghost use mathlib.Core.List.{List, _∷_, _++_};
+ghost use mathlib.Core.Bool.{true};
 ghost use Prim.Native.Nat.{suc, min, _+_, _-_, _*_, _<_, _≤_};
 ghost use lib.ListN.{length, take, drop, getD, set, replicate};
 ghost use Rattle.rules.specs.Ordered.{insert-at};
 ghost use Rattle.rules.specs.Blocks.{block};
-ghost use Rattle.rules.specs.Known.{Entry};
+ghost use Rattle.rules.specs.Known.{Entry, new-entry};
+ghost use Rattle.rules.specs.OneFunction.{numbers};
+ghost use Rattle.lists.specs.View.{view, Fit};
 ghost use Rattle.rules.specs.Map as rules;
 ghost use Rattle.known.specs.Table.{known-rows};
-ghost use Rattle.runs.specs.Runs.{spliced};
-ghost use Rattle.entries.specs.Table.{Holds, Good, capacity};
-ghost use Rattle.entry_changes.specs.Changed.{KnownAre, IsAdded};
+ghost use Rattle.runs.specs.Runs.{Fits, spliced};
+ghost use Rattle.entries.specs.Table.{flag, flags, row, Holds, Good, Told, capacity};
+ghost use Rattle.entry_changes.specs.Changed.{KnownAre, IsAdded, IsSpan, fitted, analyzed-entry, marked, end-set};
 
 // How many entries there are after a change, where the entry is, and the fault that stopped it; 0 for none.
 pub struct Added {
@@ -87,4 +90,196 @@ pub fn add_entry(
         at,
         fault: 0,
     }
+}
+
+// Where the numbers of an entry begin and end, and where all the numbers end.
+pub struct Span {
+    pub at: usize,
+    pub until: usize,
+    pub total: usize,
+}
+
+fn span_of(known: &[u64], infos: &[u64], lists: &[u64], n: usize, i: usize) -> Span
+    requires { ⌜ Good n (now known) (now infos) (now lists) × (i < n) ⌝ }
+    ensures { λ r. ⌜ ((es : List Entry) → Holds n (now (known .entry)) (now (infos .entry)) (now (lists .entry)) es → IsSpan es i r) ⌝ }
+{
+    let room = lists.len();
+    let at = entries::offset(infos, i, room);
+    let s = entries::read_row(infos, i * 8);
+    let until = at + entries::size(s, room);
+    let total = entries::offset(infos, n, room);
+    Span { at, until, total }
+}
+
+// A function's numbers in the place of those from at up to until, of the first total.
+fn put_numbers(lists: &mut [u64], t: Span, k: &[u64], v: &[u64], s: lists::Small, n: usize)
+    requires { ⌜ Fit (now k) (now v) s × (n ≡ length (numbers (view (now k) (now v) s))) × Fits (now lists) (t .total) (t .at) (t .until) n ⌝ }
+    ensures { λ _. ⌜ now (lists .exit) ≡ spliced (now (lists .entry)) (t .total) (t .at) (t .until) (numbers (view (now (k .entry)) (now (v .entry)) s)) ++ drop (t .at + n + (t .total - t .until)) (now (lists .entry)) ⌝ }
+{
+    let dst = t.at + n;
+    let rest = t.total - t.until;
+    runs::shift(lists, t.until, dst, rest);
+    stored::store(k, v, s, lists, t.at);
+}
+
+// A flag as a number.
+fn bit(b: bool) -> u64
+    ensures { λ r. ⌜ r ≡ flag b ⌝ }
+{
+    if b {
+        return 1;
+    }
+    0
+}
+
+// The flags of an analyzed function.
+fn pack(s: lists::Small) -> u64
+    ensures { λ r. ⌜ r ≡ flags true s ⌝ }
+{
+    let a = bit(s.finalized);
+    let b = bit(s.load) + 2 * a;
+    let c = bit(s.rfi) + 2 * b;
+    let d = bit(s.conditional) + 2 * c;
+    1 + 2 * (1 + 2 * d)
+}
+
+// A count as it is stored.
+fn number(x: usize) -> u64
+    ensures { λ r. ⌜ r ≡ x ⌝ }
+{
+    x as u64
+}
+
+// The row of an analyzed function, from p on.
+fn put_row(infos: &mut [u64], p: usize, s: lists::Small)
+    requires { ⌜ p + 8 ≤ length (now infos) ⌝ }
+    ensures { λ _. ⌜ now (infos .exit) ≡ take p (now (infos .entry)) ++ row true s ++ drop (p + 8) (now (infos .entry)) ⌝ }
+{
+    infos[p] = pack(s);
+    infos[p + 1] = s.prologue;
+    infos[p + 2] = s.epilogue;
+    infos[p + 3] = number(s.blocks);
+    infos[p + 4] = number(s.ways);
+    infos[p + 5] = number(s.references);
+    infos[p + 6] = number(s.tables);
+    infos[p + 7] = number(s.possible);
+}
+
+// The end of entry i.
+fn put_end(known: &mut [u64], n: usize, i: usize, end: u64)
+    requires { ⌜ (i < n) × (n ≤ 1024) × (length (now known) ≡ 2048) ⌝ }
+    ensures { λ _. ⌜ KnownAre n (set (known-rows n (now (known .entry))) i (block (getD (known-rows n (now (known .entry))) i (block 0 0) .start) end)) (now (known .exit)) ⌝ }
+{
+    let b: usize = 1024;
+    let c: usize = 2048;
+    ordered::replace_at(&mut known[b..c], n, i, end);
+}
+
+// Entry i analyzed, with its end and lists; 4 where the numbers do not fit.
+fn replace(
+    known: &mut [u64],
+    infos: &mut [u64],
+    lists: &mut [u64],
+    n: usize,
+    i: usize,
+    end: u64,
+    k: &[u64],
+    v: &[u64],
+    s: lists::Small,
+) -> u32
+    requires table { ⌜ Good n (now known) (now infos) (now lists) × (i < n) ⌝ }
+    requires fit { ⌜ Fit (now k) (now v) s ⌝ }
+    ensures { λ r. ⌜ ((es : List Entry) → Holds n (now (known .entry)) (now (infos .entry)) (now (lists .entry)) es → Told (fitted (length (now (lists .entry))) (set es i (analyzed-entry (getD es i (new-entry 0) .entry) end (view (now (k .entry)) (now (v .entry)) s)))) n (now (known .exit)) (now (infos .exit)) (now (lists .exit)) r) ⌝ }
+{
+    let t = span_of(known, infos, lists, n, i);
+    let m = stored::size(k, v, s);
+    let kept = t.at + (t.total - t.until);
+    if lists.len() - kept < m {
+        return 4;
+    }
+    put_numbers(lists, t, k, v, s, m);
+    put_row(infos, i * 8, s);
+    put_end(known, n, i, end);
+    0
+}
+
+// A function's lists and its end as those of the entry at key, which is added if there is none; 4 where there is no room.
+pub fn store(
+    known: &mut [u64],
+    infos: &mut [u64],
+    lists: &mut [u64],
+    n: usize,
+    room: usize,
+    key: u64,
+    end: u64,
+    k: &[u64],
+    v: &[u64],
+    s: lists::Small,
+) -> Added
+    requires table { ⌜ Good n (now known) (now infos) (now lists) ⌝ }
+    requires fit { ⌜ Fit (now k) (now v) s ⌝ }
+    ensures { λ r. ⌜ ((es : List Entry) → Holds n (now (known .entry)) (now (infos .entry)) (now (lists .entry)) es → Told (rules.store (capacity room (now (lists .entry))) key (view (now (k .entry)) (now (v .entry)) s) end es) (r .count) (now (known .exit)) (now (infos .exit)) (now (lists .exit)) (r .fault)) ⌝ }
+{
+    let r = add_entry(known, infos, lists, n, room, key);
+    if r.fault == 0 {
+        let count = r.count;
+        let at = r.at;
+        let fault = replace(known, infos, lists, count, at, end, k, v, s);
+        return Added { count, at, fault };
+    }
+    r
+}
+
+// The end of the entry at k, which is added if there is none.
+pub fn set_end(
+    known: &mut [u64],
+    infos: &mut [u64],
+    lists: &[u64],
+    n: usize,
+    room: usize,
+    k: u64,
+    end: u64,
+) -> Added
+    requires { ⌜ Good n (now known) (now infos) (now lists) ⌝ }
+    ensures { λ r. ⌜ ((es : List Entry) → Holds n (now (known .entry)) (now (infos .entry)) (now (lists .entry)) es → Told (end-set (capacity room (now (lists .entry))) k end es) (r .count) (now (known .exit)) (now (infos .exit)) (now (lists .entry)) (r .fault)) ⌝ }
+{
+    let r = add_entry(known, infos, lists, n, room, k);
+    if r.fault == 0 {
+        put_end(known, r.count, r.at, end);
+        return r;
+    }
+    r
+}
+
+// The flag of an analyzed entry.
+fn mark(infos: &mut [u64], p: usize)
+    requires { ⌜ (p < length (now infos)) × (getD (now infos) p 0 ≤ 63) ⌝ }
+    ensures { λ _. ⌜ now (infos .exit) ≡ set (now (infos .entry)) p (marked (getD (now (infos .entry)) p 0)) ⌝ }
+{
+    let f = infos[p];
+    if f % 2 == 1 {
+        return;
+    }
+    infos[p] = f + 1;
+}
+
+// The entry at k, which is added if there is none, is analyzed and has no end: there is no function.
+pub fn set_aside(
+    known: &mut [u64],
+    infos: &mut [u64],
+    lists: &[u64],
+    n: usize,
+    room: usize,
+    k: u64,
+) -> Added
+    requires { ⌜ Good n (now known) (now infos) (now lists) ⌝ }
+    ensures { λ r. ⌜ ((es : List Entry) → Holds n (now (known .entry)) (now (infos .entry)) (now (lists .entry)) es → Told (rules.set-aside (capacity room (now (lists .entry))) k es) (r .count) (now (known .exit)) (now (infos .exit)) (now (lists .entry)) (r .fault)) ⌝ }
+{
+    let r = add_entry(known, infos, lists, n, room, k);
+    if r.fault == 0 {
+        mark(infos, r.at * 8);
+        put_end(known, r.count, r.at, 0);
+        return r;
+    }
+    r
 }

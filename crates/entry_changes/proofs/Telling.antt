@@ -1,0 +1,92 @@
+-- Lists that stand in two slices as columns of numbers: told whole.
+use mathlib.Core.Path.{_≡_, refl, sym, ap, ap₂, _∙_}
+use mathlib.Core.Bool.{Bool, true}
+use mathlib.Core.List.{List, _∷_, [], map}
+use Prim.Native.Nat.{ℕ, _+_, _≤_}
+use native.Mathlib.Omega.{arith}
+use lib.ListN.{length, take, drop}
+use lib.Seq.{length-take-le, take-take}
+use Rattle.rules.specs.Blocks.{block, startOf}
+use Rattle.rules.specs.Slices.{Slices, count-ways, addressOf}
+use Rattle.rules.specs.OneFunction.{endOf, sizeOf, way-froms, way-tos}
+use Rattle.ordered.proofs.Columns.{rows-length}
+use Rattle.lists.specs.View.{part, Parts, parts, table, lists-of, view, Held, Fit}
+use Rattle.lists.specs.declared.Small.{Small}
+use Rattle.stored.proofs.Numbers.{froms-count}
+use Rattle.stored.proofs.Columns.{starts-are, ends-are, froms-are, tos-are, addresses-are, sizes-are, starts-fit, ends-fit, froms-fit, tos-fit, references-fit, addresses-fit, sizes-fit, possible-fit}
+use Rattle.entries.specs.Columns.{small-of, columns-of, Right}
+use Rattle.entries.specs.Table.{row}
+use Rattle.entries.proofs.Loading.{Agree, agree-lists, agree-held}
+
+-- the numbers without the fault
+abbrev pub fine : Small → Small
+fine s =
+    record { blocks = s .blocks; ways = s .ways; references = s .references; tables = s .tables; possible = s .possible; prologue = s .prologue; epilogue = s .epilogue; conditional = s .conditional; rfi = s .rfi; load = s .load; finalized = s .finalized; fault = 0 }
+
+counts : {b b′ w w′ r r′ t t′ q q′ : ℕ} (s : Small) → b ≡ b′ → w ≡ w′ → r ≡ r′ → t ≡ t′ → q ≡ q′ → _≡_ {A = Small} (record { blocks = b; ways = w; references = r; tables = t; possible = q; prologue = s .prologue; epilogue = s .epilogue; conditional = s .conditional; rfi = s .rfi; load = s .load; finalized = s .finalized; fault = s .fault }) (record { blocks = b′; ways = w′; references = r′; tables = t′; possible = q′; prologue = s .prologue; epilogue = s .epilogue; conditional = s .conditional; rfi = s .rfi; load = s .load; finalized = s .finalized; fault = s .fault })
+counts s a b c d e = cc
+
+fewer : (m : ℕ) (xs ys : List ℕ) → xs ≡ take m ys → take m xs ≡ take m ys
+fewer m xs ys e = ap (take m) e ∙ take-take m m ys (omega arith)
+
+module _ (k v : List ℕ) (s : Small) (f : Fit k v s) where
+  ways-count : count-ways (view k v s .ways) ≡ s .ways
+  unfolding view
+  ways-count =
+      sym (froms-count (view k v s .ways)) ∙ ap length (froms-are (s .ways) (part 256 1024 k) (part 256 1024 v) (froms-fit k v s f) (tos-fit k v s f))
+      ∙ length-take-le (s .ways) (part 256 1024 k) (froms-fit k v s f)
+
+  -- as many as the slices say
+  pub small-is : small-of (view k v s) ≡ fine s
+  unfolding view
+  small-is =
+      counts (fine s) (rows-length block (s .blocks) (part 0 256 k) (part 0 256 v) (starts-fit k v s f) (ends-fit k v s f)) ways-count
+      (length-take-le (s .references) (part 1280 256 k) (references-fit k v s f))
+      (rows-length table (s .tables) (part 1536 256 k) (part 1280 256 v) (addresses-fit k v s f) (sizes-fit k v s f))
+      (length-take-le (s .possible) (part 1792 128 k) (possible-fit k v s f))
+
+  agree : Agree (fine s) (columns-of (view k v s)) (parts k v)
+  unfolding view
+  agree =
+      record {
+        starts = fewer (s .blocks) _ _ (starts-are (s .blocks) (part 0 256 k) (part 0 256 v) (starts-fit k v s f) (ends-fit k v s f));
+        ends = fewer (s .blocks) _ _ (ends-are (s .blocks) (part 0 256 k) (part 0 256 v) (starts-fit k v s f) (ends-fit k v s f));
+        froms = fewer (s .ways) _ _ (froms-are (s .ways) (part 256 1024 k) (part 256 1024 v) (froms-fit k v s f) (tos-fit k v s f));
+        tos = fewer (s .ways) _ _ (tos-are (s .ways) (part 256 1024 k) (part 256 1024 v) (froms-fit k v s f) (tos-fit k v s f));
+        references = fewer (s .references) _ _ refl;
+        addresses = fewer (s .tables) _ _ (addresses-are (s .tables) (part 1536 256 k) (part 1280 256 v) (addresses-fit k v s f) (sizes-fit k v s f));
+        sizes = fewer (s .tables) _ _ (sizes-are (s .tables) (part 1536 256 k) (part 1280 256 v) (addresses-fit k v s f) (sizes-fit k v s f));
+        possible = fewer (s .possible) _ _ refl;
+      }
+
+  held : Held (parts k v) (fine s)
+  held =
+      record {
+        blocks-fit = f .held .blocks-fit;
+        ways-fit = f .held .ways-fit;
+        references-fit = f .held .references-fit;
+        tables-fit = f .held .tables-fit;
+        possible-fit = f .held .possible-fit;
+        blocks-rise = f .held .blocks-rise;
+        ways-rise = f .held .ways-rise;
+        references-rise = f .held .references-rise;
+        tables-rise = f .held .tables-rise;
+        possible-rise = f .held .possible-rise;
+      }
+
+  whole : lists-of (parts k v) (fine s) ≡ view k v s
+  unfolding view
+  whole = refl
+
+  same-view : lists-of (columns-of (view k v s)) (fine s) ≡ view k v s
+  same-view = agree-lists (fine s) (columns-of (view k v s)) (parts k v) agree ∙ whole
+
+  pub right-view : Right (view k v s)
+  right-view =
+      record {
+        held = rw small-is (agree-held (fine s) (columns-of (view k v s)) (parts k v) agree held);
+        same = ap (lists-of (columns-of (view k v s))) small-is ∙ same-view;
+      }
+
+  pub row-view : row true (small-of (view k v s)) ≡ row true s
+  row-view = ap (row true) small-is
