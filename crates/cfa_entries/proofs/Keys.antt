@@ -9,7 +9,7 @@ use lib.ListN.{length, take, drop, getD}
 use lib.Seq.{drop-cons, getD-take, length-take-le}
 use borrow.Author.Tests.{eq-eqb, ne-eqb}
 use Rattle.rules.specs.Choice.{if, if-true, if-false, Answer, ok, fault, _>>=_}
-use Rattle.rules.specs.Loop.{result, number, if-fails}
+use Rattle.rules.specs.Loop.{result, number, bind-fails, if-fails}
 use Rattle.rules.specs.Address.{address-of, section-of}
 use Rattle.rules.specs.Image as images
 use Rattle.rules.specs.Known.{Entry}
@@ -138,3 +138,24 @@ module _ (sk : List ℕ) (c : Code) (room : ℕ) (lists keys : List ℕ) (n₀ :
           now l es₀ q g =
               let w : Now l (take m keys) (drop i (take m keys)) es₀ n known infos = a .now l es₀ q g in
               on l es₀ _ (comes l (w .entries) q (w .holds)) (first l es₀ w)
+
+-- ---- answers
+
+-- entries that the slices hold are the answer
+pub record Gone (a : Answer (List Entry)) (n : ℕ) (known infos lists : List ℕ) : Type 0 where
+  pub entries : List Entry
+  pub is : a ≡ ok entries
+  pub holds : Holds n known infos lists entries
+
+module _ (n : ℕ) (known infos lists : List ℕ) (f : ℕ) where
+  pub gone : (a : Answer (List Entry)) → Met a → Told a n known infos lists f → f ≡ 0 → Gone a n known infos lists
+  gone (ok es) m t z = record { entries = es; is = refl; holds = t .0 }
+  gone (fault x) (number h) t z = absurd (omega (arith, h .0, t, z))
+
+  pub lost : (a : Answer (List Entry)) → Told a n known infos lists f → (f ≡ 0 → ⊥) → a ≡ fault f
+  lost (ok es) t n = absurd (n (t .1))
+  lost (fault x) t n = ap fault (sym t)
+
+pub keys-met : (im : images.Image) (cap : rules.Capacity) (ks : List ℕ) (es : List Entry) → Met (rules.try-add-functions im cap ks es)
+keys-met im cap [] es = result
+keys-met im cap (k ∷ ks) es = bind-fails (try-met im cap k es) (λ fs. keys-met im cap ks fs)
