@@ -4,9 +4,10 @@ use mathlib.Core.Path.{_≡_, refl, sym, ap, _∙_}
 use mathlib.Core.Bool.{Bool, true, false, not, _&&_}
 use mathlib.Core.List.{List}
 use native.Mathlib.Omega.{arith}
-use lib.Dec.{ltb, eqb}
-use borrow.Author.Tests.{eq-eqb, ne-eqb, lt-ltb, le-ltb}
-use Rattle.rules.specs.Choice.{Answer, ok, fault, _>>=_}
+use lib.Dec.{ltb, leb, eqb}
+use lib.ListN.{getD}
+use borrow.Author.Tests.{eq-eqb, ne-eqb, lt-ltb, le-ltb, ltb-true}
+use Rattle.rules.specs.Choice.{if, if-false, Answer, ok, fault, _>>=_}
 use Rattle.rules.specs.Loop.{Holds, run-stop, loop-stop}
 use Rattle.rules.specs.Address.{address-of}
 use Rattle.rules.specs.Image as images
@@ -14,6 +15,7 @@ use Rattle.rules.specs.Check.{check-image}
 use Rattle.rules.specs.Blocks.{last-end}
 use Rattle.rules.specs.Step as steps
 use Rattle.rules.specs.Analyze as rules
+use Rattle.rules.proofs.Tests.{and-right}
 use Rattle.rules.proofs.PassesEnd.{reach-again, reach-falls}
 use Rattle.rules.proofs.SkipsEnd.{skip-nops-step}
 use Rattle.obj.specs.Lent.{Lent, given, image}
@@ -24,7 +26,8 @@ use Rattle.walk.specs.State.{walk-of, place-of, Is}
 use Rattle.walk.specs.declared.Walk.{Walk}
 use Rattle.callback.specs.Lends.{Of}
 use Rattle.callback_around.specs.declared.around.Around.{Around}
-use Rattle.callback.proofs.Lends.{word-of}
+use Rattle.callback.proofs.Lends.{word-of, image-passed, sound}
+use Rattle.analyze.specs.Analysis.{Walks}
 use Rattle.slices.proofs.Loops.{sound-of, aimed-of}
 
 -- ---- words `nop`
@@ -45,6 +48,20 @@ module _ (b : List ℕ) (a : Around) where
     module _ (w : ℕ) (is-word : (l : Lent) → l .bytes ≡ b → IsCode l (a .code) → check-image (given l) ≡ true → w ≡ images.word (image l) (address-of at)) where
       here : (s f x n : List ℕ) (e : steps.Around) → Of s b f x n a e → w ≡ images.word (e .image) (address-of at)
       here s f x n e o = word-of s b f x n a e o at w is-word
+
+      -- a `nop` lies in code
+      pub nop-low : Walks b a → w ≡ 0x6000_0000 → address-of at < 0xF000_0000
+      unfolding images.word
+      nop-low u q = by (images.contains (images.code-section (image l)) (address-of at)) refl (sym q ∙ is-word l (u .of .bytes) (u .of .code) (image-passed _ _ _ _ _ _ _ (u .of)))
+        where
+          l : Lent
+          l = u .of .lent
+
+          by : (x : Bool) → images.contains (images.code-section (image l)) (address-of at) ≡ x → 0x6000_0000 ≡ if x (getD (images.code-section (image l) .words) (images.index (image l) (address-of at)) images.no-word) images.no-word → address-of at < 0xF000_0000
+          by true z e =
+              let m : address-of at < images.code-section (image l) .base + images.code-section (image l) .size = ltb-true (address-of at) (images.code-section (image l) .base + images.code-section (image l) .size) (and-right (leb (images.code-section (image l) .base) (address-of at)) (ltb (address-of at) (images.code-section (image l) .base + images.code-section (image l) .size)) z) in
+              omega (arith, m, sound l (u .of .checked) .fits)
+          by false z e = let q : 0x6000_0000 ≡ images.no-word = e ∙ if-false refl _ _ in absurd (omega (arith, q))
 
       pub nop-on : at < a .end → w ≡ 0x6000_0000 → Skipping addr (at + 4)
       nop-on h q = record { same = λ s f x n e o. sym (skip-nops-step e at (by s f x n e o)) ∙ r .same s f x n e o }

@@ -10,7 +10,18 @@ use Rattle.rules.specs.Analyze as rules
 use Rattle.lists.specs.View.{view, Fit}
 use Rattle.lists.specs.declared.Small.{Small}
 use Rattle.walk.specs.declared.Walk.{Walk}
+use Rattle.callback.specs.Lends.{Of}
+use Rattle.callback_around.specs.declared.around.Around.{Around}
 use Rattle.analyze.specs.declared.Analyzed.{Analyzed}
+
+-- the bytes are those of an image that is walked
+pub record Walks (b : List ℕ) (a : Around) : Type 0 where
+  pub sections : List ℕ
+  pub functions : List ℕ
+  pub objects : List ℕ
+  pub known : List ℕ
+  pub around : steps.Around
+  pub of : Of sections b functions objects known a around
 
 -- both kinds of passes
 unfoldable pub passes : steps.Around → steps.Walk → Answer steps.Walk

@@ -7,17 +7,16 @@ ghost use lib.ListN.{length};
 ghost use Rattle.rules.specs.Blocks.{last-end};
 ghost use Rattle.rules.specs.Step as steps;
 ghost use Rattle.rules.specs.Analyze as rules;
-ghost use Rattle.obj.specs.Sections.{InBytes};
 ghost use Rattle.executor.specs.Bits.{bit};
 ghost use Rattle.lists.specs.View.{view, Fit};
-ghost use Rattle.walk.specs.State.{walk-of, Going, Is, Low, faulting};
+ghost use Rattle.walk.specs.State.{walk-of, Going, Is};
 ghost use Rattle.callback.specs.Lends.{LendsAll, Of};
 ghost use Rattle.run.specs.Steps.{Bits};
-ghost use Rattle.analyze.specs.Analysis.{passes, walk-and-passes, begun, IsAnalyzed};
+ghost use Rattle.analyze.specs.Analysis.{Walks, passes, walk-and-passes, begun, IsAnalyzed};
 
-// Behind the words `nop` from addr, as far as the function's end.
+// Behind the words `nop` from addr, as far as the function's end. A `nop` lies in code, so that four more does not overflow.
 fn skip_nops(bytes: &[u8], a: callback::around::Around, addr: u64) -> u64
-    requires { ⌜ InBytes (now bytes) (a .code) × Low (a .end) ⌝ }
+    requires { ⌜ Walks (now bytes) a ⌝ }
     ensures { λ r. ⌜ ((s f x n : List ℕ) (e : steps.Around) → Of s (now (bytes .entry)) f x n a e → r ≡ rules.skip-nops e addr) ⌝ }
 {
     let code = a.code;
@@ -40,7 +39,7 @@ fn next_part(
     a: callback::around::Around,
     s: lists::Small,
 ) -> u64
-    requires { ⌜ InBytes (now bytes) (a .code) × Low (a .end) × Fit (now k) (now v) s ⌝ }
+    requires { ⌜ Walks (now bytes) a × Fit (now k) (now v) s ⌝ }
     ensures { λ r. ⌜ ((se f x n : List ℕ) (e : steps.Around) → Of se (now (bytes .entry)) f x n a e → r ≡ rules.skip-nops e (last-end (view (now (k .entry)) (now (v .entry)) s .blocks))) ⌝ }
 {
     let end = lists::last_end(k, v, s);
@@ -49,7 +48,7 @@ fn next_part(
 
 // Whether words are left before the known end.
 fn is_short(bytes: &[u8], k: &[u64], v: &[u64], a: callback::around::Around, w: walk::Walk) -> bool
-    requires { ⌜ InBytes (now bytes) (a .code) × Low (a .end) × Fit (now k) (now v) (w .small) ⌝ }
+    requires { ⌜ Walks (now bytes) a × Fit (now k) (now v) (w .small) ⌝ }
     ensures { λ r. ⌜ ((s f x n : List ℕ) (e : steps.Around) → Of s (now (bytes .entry)) f x n a e → (vis : ℕ → Bool) → r ≡ rules.is-short e (walk-of vis (now (k .entry)) (now (v .entry)) w)) ⌝ }
 {
     if slices::is_nowhere(w) {
@@ -78,7 +77,6 @@ fn reach_step(
     requires lends { ⌜ LendsAll (now sections) (now bytes) (now outcomes) (now functions) (now objects) (now known) a ⌝ }
     requires going { ⌜ Going (now k) (now v) w ⌝ }
     requires bits { ⌜ length (now visited) ≡ 2048 ⌝ }
-    requires low { ⌜ Low (a .end) ⌝ }
     ensures { λ r. ⌜ Bits (now (visited .exit)) × ((e : steps.Around) (o : Of (now (sections .entry)) (now (bytes .entry)) (now (functions .entry)) (now (objects .entry)) (now (known .entry)) a e) → o .lent .outcomes ≡ now (outcomes .entry) → Is (rules.reach-step e (walk-of (bit (now (visited .entry))) (now (k .entry)) (now (v .entry)) w)) (bit (now (visited .exit))) (now (k .exit)) (now (v .exit)) r) ⌝ }
 {
     let to = next_part(bytes, k, v, a, w.small);
@@ -115,7 +113,6 @@ fn reach_end(
     requires lends { ⌜ LendsAll (now sections) (now bytes) (now outcomes) (now functions) (now objects) (now known) a ⌝ }
     requires going { ⌜ Going (now k) (now v) w ⌝ }
     requires bits { ⌜ length (now visited) ≡ 2048 ⌝ }
-    requires low { ⌜ Low (a .end) ⌝ }
     ensures { λ r. ⌜ Bits (now (visited .exit)) × ((e : steps.Around) (o : Of (now (sections .entry)) (now (bytes .entry)) (now (functions .entry)) (now (objects .entry)) (now (known .entry)) a e) → o .lent .outcomes ≡ now (outcomes .entry) → Is (rules.reach-end e (walk-of (bit (now (visited .entry))) (now (k .entry)) (now (v .entry)) w)) (bit (now (visited .exit))) (now (k .exit)) (now (v .exit)) r) ⌝ }
 {
     let mut r = w;
@@ -157,7 +154,6 @@ fn run_passes(
     requires lends { ⌜ LendsAll (now sections) (now bytes) (now outcomes) (now functions) (now objects) (now known) a ⌝ }
     requires going { ⌜ Going (now k) (now v) w ⌝ }
     requires bits { ⌜ length (now visited) ≡ 2048 ⌝ }
-    requires low { ⌜ Low (a .end) ⌝ }
     ensures { λ r. ⌜ Bits (now (visited .exit)) × ((e : steps.Around) (o : Of (now (sections .entry)) (now (bytes .entry)) (now (functions .entry)) (now (objects .entry)) (now (known .entry)) a e) → o .lent .outcomes ≡ now (outcomes .entry) → Is (passes e (walk-of (bit (now (visited .entry))) (now (k .entry)) (now (v .entry)) w)) (bit (now (visited .exit))) (now (k .exit)) (now (v .exit)) r) ⌝ }
 {
     let r = slices::connect(
@@ -209,7 +205,6 @@ fn walk_and_passes(
     requires lends { ⌜ LendsAll (now sections) (now bytes) (now outcomes) (now functions) (now objects) (now known) a ⌝ }
     requires going { ⌜ Going (now k) (now v) w ⌝ }
     requires bits { ⌜ length (now visited) ≡ 2048 ⌝ }
-    requires low { ⌜ Low (a .end) ⌝ }
     ensures { λ r. ⌜ Bits (now (visited .exit)) × ((e : steps.Around) (o : Of (now (sections .entry)) (now (bytes .entry)) (now (functions .entry)) (now (objects .entry)) (now (known .entry)) a e) → o .lent .outcomes ≡ now (outcomes .entry) → Is (walk-and-passes e addr (walk-of (bit (now (visited .entry))) (now (k .entry)) (now (v .entry)) w)) (bit (now (visited .exit))) (now (k .exit)) (now (v .exit)) r) ⌝ }
 {
     let r = slices::walk_from(
@@ -302,7 +297,6 @@ fn analyze_walk(
 ) -> Analyzed
     requires lends { ⌜ LendsAll (now sections) (now bytes) (now outcomes) (now functions) (now objects) (now known) a ⌝ }
     requires fit { ⌜ Fit (now k) (now v) s × (s .fault ≡ 0) ⌝ }
-    requires low { ⌜ Low (a .end) ⌝ }
     ensures { λ r. ⌜ ((e : steps.Around) (o : Of (now (sections .entry)) (now (bytes .entry)) (now (functions .entry)) (now (objects .entry)) (now (known .entry)) a e) → o .lent .outcomes ≡ now (outcomes .entry) → IsAnalyzed (rules.analyze-walk e addr (view (now (k .entry)) (now (v .entry)) s)) (now (k .exit)) (now (v .exit)) r) ⌝ }
 {
     let mut visited = executor::none_visited();
@@ -346,7 +340,6 @@ pub fn analyze(
 ) -> Analyzed
     requires lends { ⌜ LendsAll (now sections) (now bytes) (now outcomes) (now functions) (now objects) (now known) a ⌝ }
     requires fit { ⌜ Fit (now k) (now v) s × (s .fault ≡ 0) ⌝ }
-    requires low { ⌜ Low (a .end) ⌝ }
     ensures { λ r. ⌜ ((e : steps.Around) (o : Of (now (sections .entry)) (now (bytes .entry)) (now (functions .entry)) (now (objects .entry)) (now (known .entry)) a e) → o .lent .outcomes ≡ now (outcomes .entry) → IsAnalyzed (rules.analyze e addr (view (now (k .entry)) (now (v .entry)) s)) (now (k .exit)) (now (v .exit)) r) ⌝ }
 {
     let m = lists::add_block_start(k, v, s, addr);

@@ -21,33 +21,13 @@ use Rattle.obj.specs.Lent.{Lent, given, image, seen}
 use Rattle.obj.specs.Sections.{Few, IsCode}
 use Rattle.obj.proofs.Ready.{few-sections}
 use Rattle.obj.specs.declared.sections.Code.{Code}
-use Rattle.walk.specs.State.{Low}
 use Rattle.callback.specs.Lends.{LendsAll, Of}
 use Rattle.callback_around.specs.declared.around.Around.{Around}
-use Rattle.callback.proofs.Lends.{sections-few}
 use Rattle.known_rows.specs.Rows.{are-known-list, known-blocks, Taken}
 use Rattle.one_function.specs.Results.{no-function, kept-in, Finished, Told, Checked}
 use Rattle.one_function.specs.declared.Function.{Function}
 use Rattle.one_function.proofs.Endings.{told-of}
-use Rattle.one_function.proofs.Starts.{image-refused, walk-passes, walk-refused, image-passes, start-passes, end-passes, refusals}
-
-code-from-high : (i : ℕ) (ss : List Section) → images.code-from i ss ≤ i + length ss
-code-from-high i [] = omega arith
-code-from-high i (s ∷ ss) =
-    by-if (λ n. n ≤ i + suc (length ss)) (images.is-code (s .kind)) {x = i} {y = images.code-from (suc i) ss}
-    (λ _. omega arith) (λ _. omega (arith, code-from-high (suc i) ss))
-
-end-near : (start end : ℕ) → rules.is-end start end ≡ true → start < 0xA_0000_0000 → Low end
-unfolding rules.is-end
-end-near start end h s = by (eqb end 0) refl h
-  where
-    by : (b : Bool) → eqb end 0 ≡ b → (b || (leb start end && leb end (start + 262144) && eqb (end % 4) 0)) ≡ true → Low end
-    by true q t = let z : end ≡ 0 = eqb-true end 0 q in omega arith
-    by false q t = let m : end ≤ start + 262144 = leb-true end (start + 262144) (and-right (leb start end) _ (and-left _ _ t)) in omega arith
-
-section-at : (im : images.Image) (start : ℕ) → rules.is-start im start ≡ true → start / 0x1_0000_0000 ≡ images.code-number im
-unfolding rules.is-start
-section-at im start h = eqb-true _ _ (and-left _ _ h)
+use Rattle.one_function.proofs.Starts.{image-refused, walk-passes, walk-refused, image-passes, refusals}
 
 -- ---- the checks
 
@@ -124,24 +104,6 @@ module _ (l : Lent) (rows : List ℕ) (start end : ℕ) (table : List ℕ) (n : 
     pub lends-all : LendsAll (l .sections) (l .bytes) (l .outcomes) (l .functions) (l .objects) table around-by
     unfolding lends
     lends-all = record { around = rules.around-one (image l) (known-blocks rows) start end; of = lends; outcomes = refl }
-
-    number-few : images.code-number (image l) ≤ 9
-    unfolding lends
-    number-few =
-        let f : length (image l .sections) ≤ 8 = sections-few _ _ _ _ _ _ _ lends in
-        let q : images.code-number (image l) ≤ 1 + length (image l .sections) = unfold images.code-number in code-from-high 1 (image l .sections) in
-        omega (arith, f, q)
-
-    pub end-low : Low end
-    end-low = end-near start end (end-passes (given l) (are-known-list rows) start end passes) below
-      where
-        number : start / 0x1_0000_0000 ≡ images.code-number (image l)
-        number =
-            let q : rules.is-start (image l) start ≡ true = start-passes (given l) (are-known-list rows) start end passes in
-            section-at (image l) start q
-
-        below : start < 0xA_0000_0000
-        below = omega (arith, number, number-few)
 
     pub told-walked : (before after : List ℕ) (u : Function) → Finished (kept-in (length before) (analysis.analyze (rules.around-one (image l) (known-blocks rows) start end) start (with-only []))) before after u → Told (walk (length before)) before after u
     unfolding rules.walk-function

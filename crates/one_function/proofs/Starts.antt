@@ -77,27 +77,12 @@ module _ (l : Lent) (right : Bool) (start end n : ℕ) (is-n : n ≡ check (give
 
 -- what passed
 module _ (g : Given) (right : Bool) (start end : ℕ) (z : rules.check-one g right start end ≡ 0) where
-  three : check g ≡ 0 → (right && rules.is-start (image-of g) start && rules.is-end start end) ≡ true
-  three c = by (right && rules.is-start (image-of g) start && rules.is-end start end) refl
-    where
-      by : (b : Bool) → (right && rules.is-start (image-of g) start && rules.is-end start end) ≡ b → (right && rules.is-start (image-of g) start && rules.is-end start end) ≡ true
-      by true h = h
-      by false h =
-          let q : rules.check-one g right start end ≡ 3 = unfold rules.check-one in if-true (eq-eqb (check g) 0 c) _ _ ∙ if-false h _ _ in
-          absurd (omega (arith, z, q))
-
   pub image-passes : check g ≡ 0
   image-passes = by (eqb (check g) 0) refl
     where
       by : (b : Bool) → eqb (check g) 0 ≡ b → check g ≡ 0
       by true h = eqb-true (check g) 0 h
       by false h = let q : rules.check-one g right start end ≡ check g = unfold rules.check-one in if-false h _ _ in sym q ∙ z
-
-  pub start-passes : rules.is-start (image-of g) start ≡ true
-  start-passes = and-right right _ (and-left _ _ (three image-passes))
-
-  pub end-passes : rules.is-end start end ≡ true
-  end-passes = and-right (right && rules.is-start (image-of g) start) _ (three image-passes)
 
 -- ---- the numbers 1 to 3
 

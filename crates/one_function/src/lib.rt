@@ -15,7 +15,6 @@ ghost use Rattle.rules.specs.OneFunction as rules;
 ghost use Rattle.obj.specs.Lent.{lent, given, seen};
 ghost use Rattle.obj.specs.Sections.{Few};
 ghost use Rattle.lists.specs.View.{view, Fit};
-ghost use Rattle.walk.specs.State.{Low};
 ghost use Rattle.callback.specs.Lends.{LendsAll, Of};
 ghost use Rattle.analyze.specs.Analysis.{answered};
 ghost use Rattle.one_function.specs.Results.{no-function, kept-in, Finished, Told, Checked};
@@ -96,8 +95,7 @@ fn walked(
     a: callback::around::Around,
     list: &mut [u64],
 ) -> Function
-    requires lends { ⌜ LendsAll (now sections) (now bytes) (now outcomes) (now functions) (now objects) (now known) a ⌝ }
-    requires low { ⌜ Low (a .end) ⌝ }
+    requires { ⌜ LendsAll (now sections) (now bytes) (now outcomes) (now functions) (now objects) (now known) a ⌝ }
     ensures { λ r. ⌜ ((e : steps.Around) (o : Of (now (sections .entry)) (now (bytes .entry)) (now (functions .entry)) (now (objects .entry)) (now (known .entry)) a e) → o .lent .outcomes ≡ now (outcomes .entry) → Finished (kept-in (length (now (list .entry))) (analyze e (a .start) (with-only []))) (now (list .entry)) (now (list .exit)) r) ⌝ }
 {
     let mut k: [u64; 2176] = [0; 2176];

@@ -35,7 +35,6 @@ fn include(
 ) -> Settling
     requires lends { ⌜ LendsAll (now sections) (now bytes) (now outcomes) (now functions) (now objects) (now known) a ⌝ }
     requires fit { ⌜ Fit (now k) (now v) s × (s .fault ≡ 0) ⌝ }
-    requires low { ⌜ Low (a .end) ⌝ }
     ensures { λ r. ⌜ ((e : steps.Around) (o : Of (now (sections .entry)) (now (bytes .entry)) (now (functions .entry)) (now (objects .entry)) (now (known .entry)) a e) → o .lent .outcomes ≡ now (outcomes .entry) → (low : ℕ) (last : Bool) → IsSettling (looking (rules.include e low last addr (view (now (k .entry)) (now (v .entry)) s)) current) (now (k .exit)) (now (v .exit)) r) ⌝ }
 {
     let t = lists::discard_possible(k, v, s, addr);
@@ -83,7 +82,6 @@ fn pass(
 ) -> Settling
     requires lends { ⌜ LendsAll (now sections) (now bytes) (now outcomes) (now functions) (now objects) (now known) a ⌝ }
     requires fit { ⌜ Fit (now k) (now v) s × (s .fault ≡ 0) ⌝ }
-    requires low { ⌜ Low (a .end) ⌝ }
     requires near { ⌜ Low addr ⌝ }
     ensures { λ r. ⌜ ((e : steps.Around) (o : Of (now (sections .entry)) (now (bytes .entry)) (now (functions .entry)) (now (objects .entry)) (now (known .entry)) a e) → o .lent .outcomes ≡ now (outcomes .entry) → (low : ℕ) → IsSettling (rules.settle e low last addr (answer-of Possible) (view (now (k .entry)) (now (v .entry)) s)) (now (k .exit)) (now (v .exit)) r) ⌝ }
 {
@@ -127,7 +125,6 @@ fn settle(
 ) -> Settling
     requires lends { ⌜ LendsAll (now sections) (now bytes) (now outcomes) (now functions) (now objects) (now known) a ⌝ }
     requires fit { ⌜ Fit (now k) (now v) s × (s .fault ≡ 0) ⌝ }
-    requires low { ⌜ Low (a .end) ⌝ }
     requires near { ⌜ (answer ≡ Possible → Low addr) ⌝ }
     ensures { λ r. ⌜ ((e : steps.Around) (o : Of (now (sections .entry)) (now (bytes .entry)) (now (functions .entry)) (now (objects .entry)) (now (known .entry)) a e) → o .lent .outcomes ≡ now (outcomes .entry) → IsSettling (rules.settle e low last addr (answer-of answer) (view (now (k .entry)) (now (v .entry)) s)) (now (k .exit)) (now (v .exit)) r) ⌝ }
 {
@@ -181,7 +178,7 @@ fn settle_step(
 ) -> Settling
     requires lends { ⌜ LendsAll (now sections) (now bytes) (now outcomes) (now functions) (now objects) (now known) a ⌝ }
     requires fit { ⌜ Fit (now k) (now v) (t .small) × (t .small .fault ≡ 0) ⌝ }
-    requires low { ⌜ Low (a .end) × Low (a .start) ⌝ }
+    requires low { ⌜ Low (a .start) ⌝ }
     ensures { λ r. ⌜ ((e : steps.Around) (o : Of (now (sections .entry)) (now (bytes .entry)) (now (functions .entry)) (now (objects .entry)) (now (known .entry)) a e) → o .lent .outcomes ≡ now (outcomes .entry) → IsSettling (rules.settle-step e low last (settling-of (now (k .entry)) (now (v .entry)) t)) (now (k .exit)) (now (v .exit)) r) ⌝ }
 {
     let s = t.small;
@@ -242,7 +239,7 @@ pub fn settle_all(
 ) -> Settling
     requires lends { ⌜ LendsAll (now sections) (now bytes) (now outcomes) (now functions) (now objects) (now known) a ⌝ }
     requires fit { ⌜ Fit (now k) (now v) s × (s .fault ≡ 0) ⌝ }
-    requires low { ⌜ Low (a .end) × Low (a .start) ⌝ }
+    requires low { ⌜ Low (a .start) ⌝ }
     ensures { λ r. ⌜ ((e : steps.Around) (o : Of (now (sections .entry)) (now (bytes .entry)) (now (functions .entry)) (now (objects .entry)) (now (known .entry)) a e) → o .lent .outcomes ≡ now (outcomes .entry) → IsSettling (rules.settle-all e low last (rules.settling (view (now (k .entry)) (now (v .entry)) s) low)) (now (k .exit)) (now (v .exit)) r) ⌝ }
 {
     let mut t = Settling {

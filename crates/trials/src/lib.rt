@@ -5,7 +5,6 @@ ghost use Prim.Native.Nat.{ℕ, _<_};
 ghost use Rattle.rules.specs.Step as steps;
 ghost use Rattle.rules.specs.TailCall as rules;
 ghost use Rattle.lists.specs.View.{view, Fit};
-ghost use Rattle.walk.specs.State.{Low};
 ghost use Rattle.callback.specs.Lends.{LendsAll, Of};
 ghost use Rattle.tail_calls.specs.Judged.{Decides};
 
@@ -25,7 +24,6 @@ fn trial(
 ) -> tail_calls::Judged
     requires lends { ⌜ LendsAll (now sections) (now bytes) (now outcomes) (now functions) (now objects) (now known) a ⌝ }
     requires fit { ⌜ Fit (now k) (now v) s × (s .fault ≡ 0) ⌝ }
-    requires low { ⌜ Low (a .end) ⌝ }
     ensures { λ r. ⌜ ((e : steps.Around) (o : Of (now (sections .entry)) (now (bytes .entry)) (now (functions .entry)) (now (objects .entry)) (now (known .entry)) a e) → o .lent .outcomes ≡ now (outcomes .entry) → Decides (rules.trial e addr (view (now (k .entry)) (now (v .entry)) s)) (now (k .entry)) (now (k .exit)) (now (v .entry)) r) ⌝ }
 {
     let mut tk: [u64; 2176] = [0; 2176];
@@ -70,7 +68,6 @@ pub fn check_tail_call(
 ) -> tail_calls::Judged
     requires lends { ⌜ LendsAll (now sections) (now bytes) (now outcomes) (now functions) (now objects) (now known) a ⌝ }
     requires fit { ⌜ Fit (now k) (now v) s × (s .fault ≡ 0) ⌝ }
-    requires low { ⌜ Low (a .end) ⌝ }
     ensures { λ r. ⌜ ((e : steps.Around) (o : Of (now (sections .entry)) (now (bytes .entry)) (now (functions .entry)) (now (objects .entry)) (now (known .entry)) a e) → o .lent .outcomes ≡ now (outcomes .entry) → Decides (rules.check-tail-call e addr (view (now (k .entry)) (now (v .entry)) s)) (now (k .entry)) (now (k .exit)) (now (v .entry)) r) ⌝ }
 {
     let tested = tail_calls::check_before(bytes, known, k, v, s, a, addr);

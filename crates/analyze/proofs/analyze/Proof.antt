@@ -16,7 +16,7 @@ returns : tie.Need-returns
 returns c = λ e o q. start-fails e _ _ _ _ _ _ _ (c .before .before .before .before .before .before .before .add-block-start .ensures) (c .if1 .taken)
 
 analyze-walk-requires : tie.Need-analyze-walk-requires
-analyze-walk-requires c κs = let p = c .before .before .before .before .before .before .before .before .before .before .before .before .before .before .before .before .before .before .before .before .before .pre in (p .0, ((start-fits (p .0 .around) _ _ _ _ _ _ _ (c .before .before .before .before .before .before .before .before .before .before .add-block-start .ensures) (c .before .before .before .if1 .left), c .before .before .before .if1 .left), p .1 .1))
+analyze-walk-requires c κs = let p = c .before .before .before .before .before .before .before .before .before .before .before .before .before .before .before .before .before .before .before .before .before .pre in (p .0, (start-fits (p .0 .around) _ _ _ _ _ _ _ (c .before .before .before .before .before .before .before .before .before .before .add-block-start .ensures) (c .before .before .before .if1 .left), c .before .before .before .if1 .left))
 
 same-length-3 : tie.Need-same-length-3
 same-length-3 c = search needs

@@ -11,7 +11,7 @@ new-walk-requires : tie.Need-new-walk-requires
 new-walk-requires c κs = search needs
 
 walk-and-passes-requires : tie.Need-walk-and-passes-requires
-walk-and-passes-requires c κs = let p = c .before .before .before .before .before .before .before .before .before .before .before .before .before .pre in (p .0, (begun-goes _ _ _ _ (c .new-walk .ensures) (p .1 .0 .0) (p .1 .0 .1), (c .before .before .before .before .none-visited .ensures .1, p .1 .1)))
+walk-and-passes-requires c κs = let p = c .before .before .before .before .before .before .before .before .before .before .before .before .before .pre in (p .0, (begun-goes _ _ _ _ (c .new-walk .ensures) (p .1 .0) (p .1 .1), c .before .before .before .before .none-visited .ensures .1))
 
 same-length : tie.Need-same-length
 same-length c = search needs

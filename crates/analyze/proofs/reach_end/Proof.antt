@@ -14,13 +14,13 @@ abbrev μ-loop : tie.MeasureT-loop
 μ-loop sections bytes outcomes functions objects known visited₀ k₀ v₀ a r₀ visited k v r = passes (a .code) visited k v r
 
 loop-holds : tie.Need-loop-holds Inv-loop μ-loop
-loop-holds c = passing-first _ _ _ _ _ _ _ _ _ _ _ _ _ (c .before .before .before .before .before .before .before .before .pre .1 .1 .0) (c .before .before .before .before .before .before .before .before .pre .1 .0)
+loop-holds c = passing-first _ _ _ _ _ _ _ _ _ _ _ _ _ (c .before .before .before .before .before .before .before .before .pre .1 .1) (c .before .before .before .before .before .before .before .before .pre .1 .0)
 
 is-short-requires : tie.Need-is-short-requires Inv-loop μ-loop
-is-short-requires c κs = (bytes-in _ _ _ _ _ _ _ (c .before .before .before .before .before .before .before .before .before .before .before .pre .0 .of), c .before .before .before .before .before .before .before .before .before .before .before .pre .1 .1 .1, c .before .before .loop .inv .going .fits .lists)
+is-short-requires c κs = let p = c .before .before .before .before .before .before .before .before .before .before .before .pre in (record { sections = _; functions = _; objects = _; known = _; around = p .0 .around; of = p .0 .of }, c .before .before .loop .inv .going .fits .lists)
 
 reach-step-requires : tie.Need-reach-step-requires Inv-loop μ-loop
-reach-step-requires c κs = (c .before .before .before .before .before .before .before .before .before .before .before .before .before .before .before .before .pre .0, (c .before .before .before .before .before .before .before .loop .inv .going, (c .before .before .before .before .before .before .before .loop .inv .bits-long, c .before .before .before .before .before .before .before .before .before .before .before .before .before .before .before .before .pre .1 .1 .1)))
+reach-step-requires c κs = (c .before .before .before .before .before .before .before .before .before .before .before .before .before .before .before .before .pre .0, (c .before .before .before .before .before .before .before .loop .inv .going, c .before .before .before .before .before .before .before .loop .inv .bits-long))
 
 same-length : tie.Need-same-length Inv-loop μ-loop
 same-length c = (c .before .before .before .before .before .k .given) ∙ (c .before .before .before .before .before .before .before .before .before .before .before .before .before .before .loop .inv .keys)

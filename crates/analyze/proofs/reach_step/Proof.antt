@@ -5,10 +5,10 @@ use Rattle.analyze.proofs.reach_step.Statement.{statement}
 use Rattle.analyze.proofs.reach_step.Tie as tie
 
 next-part-requires : tie.Need-next-part-requires
-next-part-requires c κs = (bytes-in _ _ _ _ _ _ _ (c .before .before .before .before .before .before .before .before .before .before .pre .0 .of), c .before .before .before .before .before .before .before .before .before .before .pre .1 .1 .1, c .before .before .before .before .before .before .before .before .before .before .pre .1 .0 .fits .lists)
+next-part-requires c κs = let p = c .before .before .before .before .before .before .before .before .before .before .pre in (record { sections = _; functions = _; objects = _; known = _; around = p .0 .around; of = p .0 .of }, p .1 .0 .fits .lists)
 
 run-pass-requires : tie.Need-run-pass-requires
-run-pass-requires c κs = (c .before .before .before .before .before .before .before .before .before .before .before .before .before .before .pre .0, (c .before .before .before .before .before .before .before .before .before .before .before .before .before .before .pre .1 .0, c .before .before .before .before .before .before .before .before .before .before .before .before .before .before .pre .1 .1 .0))
+run-pass-requires c κs = (c .before .before .before .before .before .before .before .before .before .before .before .before .before .before .pre .0, (c .before .before .before .before .before .before .before .before .before .before .before .before .before .before .pre .1 .0, c .before .before .before .before .before .before .before .before .before .before .before .before .before .before .pre .1 .1))
 
 same-length : tie.Need-same-length
 same-length c = search needs

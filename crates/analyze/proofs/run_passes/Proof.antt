@@ -6,7 +6,7 @@ use Rattle.analyze.proofs.run_passes.Statement.{statement}
 use Rattle.analyze.proofs.run_passes.Tie as tie
 
 connect-requires : tie.Need-connect-requires
-connect-requires c κs = (c .before .before .before .before .before .before .before .before .before .before .before .pre .0, (c .before .before .before .before .before .before .before .before .before .before .before .pre .1 .0, c .before .before .before .before .before .before .before .before .before .before .before .pre .1 .1 .0))
+connect-requires c κs = (c .before .before .before .before .before .before .before .before .before .before .before .pre .0, (c .before .before .before .before .before .before .before .before .before .before .before .pre .1 .0, c .before .before .before .before .before .before .before .before .before .before .before .pre .1 .1))
 
 same-length : tie.Need-same-length
 same-length c = search needs
@@ -18,7 +18,7 @@ returns : tie.Need-returns
 returns c = (c .before .before .before .before .before .before .connect .ensures .0, λ e o q. part-fails _ _ _ _ _ _ (rules.reach-end e) (passes-are e _) (c .before .before .before .before .before .before .connect .ensures .1 e o q) (c .if1 .taken))
 
 reach-end-requires : tie.Need-reach-end-requires
-reach-end-requires c κs = let l = c .before .before .before .before .before .before .before .before .before .before .before .before .before .before .before .before .before .before .before .before .before .pre .0 in (l, (going-on (c .before .before .before .before .before .before .before .before .before .connect .ensures .1 (l .around) (l .of) (l .outcomes)) (c .before .before .before .if1 .left), (c .before .before .before .before .before .before .before .before .before .connect .ensures .0, c .before .before .before .before .before .before .before .before .before .before .before .before .before .before .before .before .before .before .before .before .before .pre .1 .1 .1)))
+reach-end-requires c κs = let l = c .before .before .before .before .before .before .before .before .before .before .before .before .before .before .before .before .before .before .before .before .before .pre .0 in (l, (going-on (c .before .before .before .before .before .before .before .before .before .connect .ensures .1 (l .around) (l .of) (l .outcomes)) (c .before .before .before .if1 .left), c .before .before .before .before .before .before .before .before .before .connect .ensures .0))
 
 same-length-3 : tie.Need-same-length-3
 same-length-3 c = search needs

@@ -1,3 +1,5 @@
+use Rattle.analyze.proofs.Reaches.{nop-low}
+use Rattle.callback.proofs.Lends.{bytes-in}
 use Rattle.analyze.proofs.Reaches.{Skipping, skipping-first, nop-on, other-ends, end-ends}
 use Prim.Native.Nat.{_-_}
 use native.Mathlib.Omega.{arith}
@@ -18,13 +20,13 @@ cast-word : tie.Need-cast-word Inv-loop μ-loop
 cast-word c = search needs
 
 word-requires : tie.Need-word-requires Inv-loop μ-loop
-word-requires c κs = c .before .before .before .before .before .pre .0
+word-requires c κs = bytes-in _ _ _ _ _ _ _ (c .before .before .before .before .before .pre .of)
 
 returns : tie.Need-returns Inv-loop μ-loop
 returns c = other-ends _ _ _ _ (c .before .before .before .before .loop .inv) _ (c .before .word .ensures) (c .before .before .if1 .taken) (c .if2 .taken)
 
 add-at : tie.Need-add-at Inv-loop μ-loop
-add-at c = let h = c .before .before .if1 .taken in let l = c .before .before .before .before .before .before .before .pre .1 in omega arith
+add-at c = let h = c .before .before .if1 .taken in let g = c .before .before .before .struct-known .given .1 .0 in let l = nop-low _ _ _ _ (c .before .before .before .before .loop .inv) _ (c .before .word .ensures) (c .before .before .before .before .before .before .before .pre) (c .if2 .left) in omega (arith, h, g, l)
 
 loop-less : tie.Need-loop-less Inv-loop μ-loop
 loop-less c = let h = c .before .before .if1 .taken in omega arith

@@ -1,5 +1,5 @@
 use Rattle.one_function.proofs.Lending.{lends-outcomes}
-use Rattle.one_function.proofs.Lending.{told-refused, few-checked, lends, lends-all, end-low, told-walked}
+use Rattle.one_function.proofs.Lending.{told-refused, few-checked, lends, lends-all, told-walked}
 use Rattle.known_rows.specs.Rows.{known-blocks}
 use Rattle.rules.specs.OneFunction.{around-one}
 use Rattle.obj.specs.Lent.{lent, image}
@@ -27,7 +27,7 @@ slice-aggregate-walked : tie.Need-slice-aggregate-walked
 slice-aggregate-walked c = search needs
 
 walked-requires : tie.Need-walked-requires
-walked-requires c κs = (lends-all (let g = c .before .before .before .before .before .before .before .before .before .before .before .before .before .before .before .before .args in lent (g .sections .now) (g .bytes .now) (g .outcomes .now) (g .functions .now) (g .objects .now) (g .skips .now) (g .entry .now)) _ _ _ _ _ (c .before .before .before .before .before .check-walk .ensures) (c .before .before .before .if1 .left) _ (c .before .before .code-section .ensures (let g = c .before .before .before .before .before .before .before .before .before .before .before .before .before .before .before .before .args in lent (g .sections .now) (g .bytes .now) (g .outcomes .now) (g .functions .now) (g .objects .now) (g .skips .now) (g .entry .now)) refl), end-low (let g = c .before .before .before .before .before .before .before .before .before .before .before .before .before .before .before .before .args in lent (g .sections .now) (g .bytes .now) (g .outcomes .now) (g .functions .now) (g .objects .now) (g .skips .now) (g .entry .now)) _ _ _ _ _ (c .before .before .before .before .before .check-walk .ensures) (c .before .before .before .if1 .left) _ (c .before .before .code-section .ensures (let g = c .before .before .before .before .before .before .before .before .before .before .before .before .before .before .before .before .args in lent (g .sections .now) (g .bytes .now) (g .outcomes .now) (g .functions .now) (g .objects .now) (g .skips .now) (g .entry .now)) refl))
+walked-requires c κs = lends-all (let g = c .before .before .before .before .before .before .before .before .before .before .before .before .before .before .before .before .args in lent (g .sections .now) (g .bytes .now) (g .outcomes .now) (g .functions .now) (g .objects .now) (g .skips .now) (g .entry .now)) _ _ _ _ _ (c .before .before .before .before .before .check-walk .ensures) (c .before .before .before .if1 .left) _ (c .before .before .code-section .ensures (let g = c .before .before .before .before .before .before .before .before .before .before .before .before .before .before .before .before .args in lent (g .sections .now) (g .bytes .now) (g .outcomes .now) (g .functions .now) (g .objects .now) (g .skips .now) (g .entry .now)) refl)
 
 same-length : tie.Need-same-length
 same-length c = search needs

@@ -19,7 +19,7 @@ slice-aggregate-analyze-2 : tie.Need-slice-aggregate-analyze-2
 slice-aggregate-analyze-2 c = search needs
 
 analyze-requires : tie.Need-analyze-requires
-analyze-requires c κs = (c .before .before .before .before .before .before .before .before .before .before .before .before .pre .0, (nothing-fits _ _ _ _ (c .before .before .empty .ensures), c .before .before .before .before .before .before .before .before .before .before .before .before .pre .1))
+analyze-requires c κs = (c .before .before .before .before .before .before .before .before .before .before .before .before .pre, nothing-fits _ _ _ _ (c .before .before .empty .ensures))
 
 slice-aggregate-finish : tie.Need-slice-aggregate-finish
 slice-aggregate-finish c = search needs
@@ -28,7 +28,7 @@ slice-aggregate-finish-2 : tie.Need-slice-aggregate-finish-2
 slice-aggregate-finish-2 c = search needs
 
 finish-requires : tie.Need-finish-requires
-finish-requires c κs = let l = c .before .before .before .before .before .before .before .before .before .before .before .before .before .before .before .before .before .before .before .pre .0 in c .before .before .before .before .before .before .analyze .ensures (l .around) (l .of) (l .outcomes) .fits
+finish-requires c κs = let l = c .before .before .before .before .before .before .before .before .before .before .before .before .before .before .before .before .before .before .before .pre in c .before .before .before .before .before .before .analyze .ensures (l .around) (l .of) (l .outcomes) .fits
 
 same-length : tie.Need-same-length
 same-length c = search needs

@@ -7,7 +7,7 @@ discard-possible-requires : tie.Need-discard-possible-requires
 discard-possible-requires c κs = search needs
 
 analyze-requires : tie.Need-analyze-requires
-analyze-requires c κs = (c .before .before .before .before .before .before .before .before .before .before .before .before .before .before .before .before .before .pre .0, (fits-discarded _ _ _ _ _ _ _ (c .before .before .before .before .before .before .discard-possible .ensures), c .before .before .before .before .before .before .before .before .before .before .before .before .before .before .before .before .before .pre .1 .1))
+analyze-requires c κs = (c .before .before .before .before .before .before .before .before .before .before .before .before .before .before .before .before .before .pre .0, fits-discarded _ _ _ _ _ _ _ (c .before .before .before .before .before .before .discard-possible .ensures))
 
 same-length : tie.Need-same-length
 same-length c = search needs

@@ -7,7 +7,7 @@ enum-told : tie.Need-enum-told
 enum-told c = search needs
 
 include-requires : tie.Need-include-requires
-include-requires c κs = let p = c .before .before .before .before .before .before .before .before .before .before .before .before .pre in (p .0, (p .1 .0, p .1 .1 .0))
+include-requires c κs = let p = c .before .before .before .before .before .before .before .before .before .before .before .before .pre in (p .0, p .1 .0)
 
 enum-told-2 : tie.Need-enum-told-2
 enum-told-2 c = search needs
@@ -19,7 +19,7 @@ enum-told-3 : tie.Need-enum-told-3
 enum-told-3 c = search needs
 
 pass-requires : tie.Need-pass-requires
-pass-requires c κs = let p = c .before .before .before .before .before .before .before .before .before .before .before .before .pre in (p .0, (p .1 .0, (p .1 .1 .0, p .1 .1 .1 (c .before .before .enum-told3 .given .1))))
+pass-requires c κs = let p = c .before .before .before .before .before .before .before .before .before .before .before .before .pre in (p .0, (p .1 .0, p .1 .1 (c .before .before .enum-told3 .given .1)))
 
 same-length : tie.Need-same-length
 same-length c = search needs

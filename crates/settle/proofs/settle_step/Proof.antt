@@ -19,7 +19,7 @@ returns : tie.Need-returns
 returns c = λ e o q. step-fails e _ _ _ _ _ _ _ _ _ (c .before .before .before .before .before .before .before .before .next-possible .ensures) (c .before .before .before .before .before .check-tail-call .ensures e o q) (c .if1 .taken) _
 
 settle-requires : tie.Need-settle-requires
-settle-requires c κs = let p = c .before .before .before .before .before .before .before .before .before .before .before .before .before .before .before .before .before .before .before .before .before .before .pre in let l = p .0 in let d = c .before .before .before .before .before .before .before .check-tail-call .ensures (l .around) (l .of) (l .outcomes) in (l, ((d .fit (c .before .before .if1 .left), c .before .before .if1 .left), (p .1 .1 .0, possible-low _ _ _ _ _ _ _ _ _ d (c .before .before .if1 .left) (l .of .start) (p .1 .1 .1))))
+settle-requires c κs = let p = c .before .before .before .before .before .before .before .before .before .before .before .before .before .before .before .before .before .before .before .before .before .before .pre in let l = p .0 in let d = c .before .before .before .before .before .before .before .check-tail-call .ensures (l .around) (l .of) (l .outcomes) in (l, ((d .fit (c .before .before .if1 .left), c .before .before .if1 .left), possible-low _ _ _ _ _ _ _ _ _ d (c .before .before .if1 .left) (l .of .start) (p .1 .1)))
 
 same-length-3 : tie.Need-same-length-3
 same-length-3 c = search needs

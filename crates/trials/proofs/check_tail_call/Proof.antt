@@ -9,7 +9,7 @@ use Rattle.trials.proofs.check_tail_call.Statement.{statement}
 use Rattle.trials.proofs.check_tail_call.Tie as tie
 
 check-before-requires : tie.Need-check-before-requires
-check-before-requires c κs = let l = c .before .before .before .before .before .before .before .before .before .pre .0 in ((bytes-in _ _ _ _ _ _ _ (l .of), l .of .kept), c .before .before .before .before .before .before .before .before .before .pre .1 .0 .0)
+check-before-requires c κs = let l = c .before .before .before .before .before .before .before .before .before .pre .0 in ((bytes-in _ _ _ _ _ _ _ (l .of), l .of .kept), c .before .before .before .before .before .before .before .before .before .pre .1 .0)
 
 enum-told : tie.Need-enum-told
 enum-told c = search needs
@@ -39,19 +39,19 @@ same-length : tie.Need-same-length
 same-length c = search needs
 
 returns : tie.Need-returns
-returns c = λ e o q. let p = c .before .before .before .before .before .before .before .before .before .before .before .before .before .pre in decided _ _ _ e _ _ (c .before .before .before .check-before .ensures e (asked-of _ _ _ _ _ _ e o)) Not answers.Not _ (c .before .enum-told .given .1) refl (p .1 .0 .0) (p .1 .0 .1) (c .answered .ensures)
+returns c = λ e o q. let p = c .before .before .before .before .before .before .before .before .before .before .before .before .before .pre in decided _ _ _ e _ _ (c .before .before .before .check-before .ensures e (asked-of _ _ _ _ _ _ e o)) Not answers.Not _ (c .before .enum-told .given .1) refl (p .1 .0) (p .1 .1) (c .answered .ensures)
 
 same-length-2 : tie.Need-same-length-2
 same-length-2 c = search needs
 
 returns-2 : tie.Need-returns-2
-returns-2 c = λ e o q. let p = c .before .before .before .before .before .before .before .before .before .before .before .before .before .pre in decided _ _ _ e _ _ (c .before .before .before .check-before .ensures e (asked-of _ _ _ _ _ _ e o)) Is answers.Is _ (c .before .enum-told2 .given .1) refl (p .1 .0 .0) (p .1 .0 .1) (c .answered2 .ensures)
+returns-2 c = λ e o q. let p = c .before .before .before .before .before .before .before .before .before .before .before .before .before .pre in decided _ _ _ e _ _ (c .before .before .before .check-before .ensures e (asked-of _ _ _ _ _ _ e o)) Is answers.Is _ (c .before .enum-told2 .given .1) refl (p .1 .0) (p .1 .1) (c .answered2 .ensures)
 
 same-length-3 : tie.Need-same-length-3
 same-length-3 c = search needs
 
 returns-3 : tie.Need-returns-3
-returns-3 c = λ e o q. let p = c .before .before .before .before .before .before .before .before .before .before .before .before .before .pre in decided _ _ _ e _ _ (c .before .before .before .check-before .ensures e (asked-of _ _ _ _ _ _ e o)) Possible answers.Possible _ (c .before .enum-told3 .given .1) refl (p .1 .0 .0) (p .1 .0 .1) (c .answered3 .ensures)
+returns-3 c = λ e o q. let p = c .before .before .before .before .before .before .before .before .before .before .before .before .before .pre in decided _ _ _ e _ _ (c .before .before .before .check-before .ensures e (asked-of _ _ _ _ _ _ e o)) Possible answers.Possible _ (c .before .enum-told3 .given .1) refl (p .1 .0) (p .1 .1) (c .answered3 .ensures)
 
 same-length-4 : tie.Need-same-length-4
 same-length-4 c = search needs

@@ -19,7 +19,7 @@ slice-aggregate-analyze-2 : tie.Need-slice-aggregate-analyze-2
 slice-aggregate-analyze-2 c = search needs
 
 analyze-requires : tie.Need-analyze-requires
-analyze-requires c κs = let p = c .before .before .before .before .before .before .before .before .before .before .before .before .before .before .before .before .pre in (p .0, (trial-begins _ _ _ _ _ (c .before .before .before .before .copy-references .ensures), p .1 .1))
+analyze-requires c κs = let p = c .before .before .before .before .before .before .before .before .before .before .before .before .before .before .before .before .pre in (p .0, trial-begins _ _ _ _ _ (c .before .before .before .before .copy-references .ensures))
 
 slice-aggregate-judge : tie.Need-slice-aggregate-judge
 slice-aggregate-judge c = search needs
@@ -28,7 +28,7 @@ slice-aggregate-judge-2 : tie.Need-slice-aggregate-judge-2
 slice-aggregate-judge-2 c = search needs
 
 judge-requires : tie.Need-judge-requires
-judge-requires c κs = let l = c .before .before .before .before .before .before .before .before .before .before .before .before .before .before .before .before .before .before .before .before .before .before .before .pre .0 in (c .before .before .before .before .before .before .before .before .before .before .before .before .before .before .before .before .before .before .before .before .before .before .before .pre .1 .0, c .before .before .before .before .before .before .analyze .ensures (l .around) (l .of) (l .outcomes) .fits)
+judge-requires c κs = let l = c .before .before .before .before .before .before .before .before .before .before .before .before .before .before .before .before .before .before .before .before .before .before .before .pre .0 in (c .before .before .before .before .before .before .before .before .before .before .before .before .before .before .before .before .before .before .before .before .before .before .before .pre .1, c .before .before .before .before .before .before .analyze .ensures (l .around) (l .of) (l .outcomes) .fits)
 
 same-length : tie.Need-same-length
 same-length c = search needs
