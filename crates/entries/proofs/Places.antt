@@ -69,7 +69,7 @@ module _ (s : Small) (l : List ℕ) (lim : Limits s) (long : length l ≡ number
 
 -- ---- the columns of eight lists, one after the other
 
-left : (c m : ℕ) (x y : List ℕ) → c + m ≤ length x → part c m (x ++ y) ≡ part c m x
+pub left : (c m : ℕ) (x y : List ℕ) → c + m ≤ length x → part c m (x ++ y) ≡ part c m x
 unfolding part
 left c m x y h = ap (take m) (drop-append-le c x y (omega arith)) ∙ take-append-le m (drop c x) y (omega (arith, length-drop c x))
 

@@ -30,7 +30,7 @@ pub half-flag : (b : Bool) (x : ℕ) → (flag b + 2 * x) / 2 ≡ x
 half-flag true x = omega arith
 half-flag false x = omega arith
 
-odd-last : (b : Bool) → odd (flag b) ≡ b
+pub odd-last : (b : Bool) → odd (flag b) ≡ b
 unfolding odd
 odd-last true = refl
 odd-last false = refl

@@ -1,15 +1,20 @@
 // The entries of the map in lent slices: known (entries and ends), infos (a row of eight numbers for each entry) and lists (the numbers of
 // the functions' lists, one function's directly behind the other's): where an entry's numbers are, and its lists loaded.
 ghost use mathlib.Core.Path.{_≡_};
+ghost use mathlib.Core.Bool.{_&&_};
 ghost use mathlib.Core.List.{List};
 ghost use mathlib.Core.Option.{some};
-ghost use Prim.Native.Nat.{_+_, _*_, _<_, _≤_};
+ghost use Prim.Native.Nat.{_+_, _*_, _/_, _<_, _≤_};
 ghost use lib.ListN.{length, take, drop, getD};
 ghost use lib.Seq.{paste};
-ghost use Rattle.rules.specs.Choice.{ok};
+ghost use lib.Dec.{eqb};
+ghost use Rattle.rules.specs.Choice.{ok, any};
 ghost use Rattle.rules.specs.Slices.{Slices};
+ghost use Rattle.rules.specs.Known as rules;
 ghost use Rattle.rules.specs.Known.{Entry, new-entry};
+ghost use Rattle.rules.specs.Map.{first-unbounded-function};
 ghost use Rattle.lists.specs.View.{Is};
+ghost use Rattle.known.specs.Table.{Kept, Knows};
 ghost use Rattle.entries.specs.Columns.{numbers-long, Limits, Keys, Values};
 ghost use Rattle.entries.specs.Table.{odd, small-from, row-size, sizes, Holds, Good};
 
@@ -137,4 +142,71 @@ pub fn load(
     put_keys(k, &lists[at..until], s);
     put_values(v, &lists[at..until], s);
     s
+}
+
+// The first entry that is not analyzed; 0 for none.
+pub fn first_unbounded(known: &[u64], infos: &[u64], lists: &[u64], n: usize) -> u64
+    requires { ⌜ Good n (now known) (now infos) (now lists) ⌝ }
+    ensures { λ r. ⌜ ((es : List Entry) → Holds n (now (known .entry)) (now (infos .entry)) (now (lists .entry)) es → r ≡ first-unbounded-function es) ⌝ }
+{
+    let mut i: usize = 0;
+    while i < n {
+        if is_odd(infos[i * 8]) {
+            i += 1;
+        } else {
+            return known[i];
+        }
+    }
+    0
+}
+
+// Whether a row with such flags and such an end is analyzed, with lists and no end.
+fn lacks_end(flags: u64, end: u64) -> bool
+    ensures { λ r. ⌜ r ≡ (odd flags && eqb end 0 && odd (flags / 2)) ⌝ }
+{
+    if is_odd(flags) {
+        if end == 0 {
+            return is_odd(flags / 2);
+        }
+        return false;
+    }
+    false
+}
+
+// Whether entry i is analyzed, with lists and no end.
+pub fn is_unfinalized(known: &[u64], infos: &[u64], lists: &[u64], n: usize, i: usize) -> bool
+    requires { ⌜ Good n (now known) (now infos) (now lists) × (i < n) ⌝ }
+    ensures { λ r. ⌜ ((es : List Entry) → Holds n (now (known .entry)) (now (infos .entry)) (now (lists .entry)) es → r ≡ rules.is-unfinalized (getD es i (new-entry 0))) ⌝ }
+{
+    lacks_end(infos[i * 8], known[1024 + i])
+}
+
+// Whether one of them is.
+pub fn any_unfinalized(known: &[u64], infos: &[u64], lists: &[u64], n: usize) -> bool
+    requires { ⌜ Good n (now known) (now infos) (now lists) ⌝ }
+    ensures { λ r. ⌜ ((es : List Entry) → Holds n (now (known .entry)) (now (infos .entry)) (now (lists .entry)) es → r ≡ any rules.is-unfinalized es) ⌝ }
+{
+    let mut i: usize = 0;
+    while i < n {
+        if is_unfinalized(known, infos, lists, n, i) {
+            return true;
+        }
+        i += 1;
+    }
+    false
+}
+
+// The end of the entry at k; 0 for none.
+pub fn end_of_entry(known: &[u64], n: usize, k: u64) -> u64
+    requires { ⌜ Kept n (now known) ⌝ }
+    ensures { λ r. ⌜ ((es : List Entry) → Knows n (now (known .entry)) es → r ≡ rules.end-of-entry k es) ⌝ }
+{
+    let a: usize = 0;
+    let b: usize = 1024;
+    let f = ordered::find(&known[a..b], n, k);
+    if f.hit {
+        let at = f.at;
+        return known[1024 + at];
+    }
+    0
 }

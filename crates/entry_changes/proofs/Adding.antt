@@ -10,7 +10,7 @@ use lib.ListN.{length, take, drop, getD, length-map, replicate, length-append, l
 use lib.Seq.{length-take-le}
 use borrow.Author.Tests.{lt-ltb, le-ltb, ltb-true, ltb-false, eqb-true, eq-eqb, le-leb, lt-leb}
 use Rattle.rules.specs.Choice.{if, if-true, if-false, by-if, Answer, ok, fault, limited}
-use Rattle.rules.specs.Ordered.{self, rank, has, put, insert-at, Rising, Above}
+use Rattle.rules.specs.Ordered.{rank, has, put, insert-at, Rising}
 use Rattle.rules.proofs.Ordered.{rank-le, put-new, put-rising, length-put-new, length-insert-at}
 use Rattle.rules.specs.Blocks.{Block, block, startOf}
 use Rattle.rules.specs.Known.{Entry, entryOf, new-entry}
@@ -21,12 +21,12 @@ use Rattle.ordered.specs.declared.Found.{Found}
 use Rattle.ordered.proofs.Columns.{rows-change, inserting, inserts}
 use Rattle.lists.specs.View.{part}
 use Rattle.lists.proofs.Parts.{Lent, over, lent, part-length}
-use Rattle.blocks.proofs.Rows.{rank-rows, has-rows, starts-rise}
 use Rattle.runs.specs.Runs.{Fits, spliced}
 use Rattle.known.specs.Table.{known-rows, as-block, Kept, Knows}
-use Rattle.known.proofs.Entries.{table, has-entry}
 use Rattle.entries.specs.Table.{info-row, entry-numbers, flat, Begins, Holds, Good, capacity, Told}
 use Rattle.entries.proofs.Rows.{rows-long, count-is}
+use Rattle.entries.proofs.Lookups as lookups
+use Rattle.entries.proofs.Reading.{entries-rise}
 use Rattle.entry_changes.specs.Changed.{KnownAre, Placed, IsAdded}
 use Rattle.entry_changes.specs.declared.Added.{Added}
 use Rattle.entry_changes.proofs.Splicing.{splice-begins, flat-inserted, flat-parted, right-inserted}
@@ -70,15 +70,6 @@ map-inserted zero x es = refl
 map-inserted (suc i) x [] = refl
 map-inserted (suc i) x (y ∷ es) = ap (λ (l : List Block). as-block y ∷ l) (map-inserted i x es)
 
-rank-map : (k : ℕ) (es : List Entry) → rank startOf k (map as-block es) ≡ rank entryOf k es
-rank-map k [] = refl
-rank-map k (x ∷ es) = ap (λ (r : ℕ). if (ltb (x .entry) k) (suc r) 0) (rank-map k es)
-
-pub rising-entries : (es : List Entry) → Rising startOf (map as-block es) → Rising entryOf es
-rising-entries [] r = tt
-rising-entries (x ∷ []) r = (tt, tt)
-rising-entries (x ∷ y ∷ es) r = (r .0, rising-entries (y ∷ es) (r .1))
-
 pub rising-rows : (es : List Entry) → Rising entryOf es → Rising startOf (map as-block es)
 rising-rows [] r = tt
 rising-rows (x ∷ []) r = (tt, tt)
@@ -102,17 +93,11 @@ put-there a (x ∷ es) = by (ltb (x .entry) (a .entry)) refl (eqb (x .entry) (a 
 
 module _ (n : ℕ) (known infos lists : List ℕ) (k : ℕ) (f : Found) (is : IsFound (take n (part 0 1024 known)) k f) where
   module _ (es : List Entry) (h : Holds n known infos lists es) where
-    pub place-is : f .at ≡ rank entryOf k es
-    unfolding part
-    place-is =
-        is .place
-        ∙ sym (rank-rows n _ _ (table n known (h .kept) .starts) (table n known (h .kept) .ends) k)
-        ∙ ap (rank startOf k) (h .knows .rows) ∙ rank-map k es
+    place-is : f .at ≡ rank entryOf k es
+    place-is = lookups.place-is n known (h .kept) k f is es (h .knows)
 
-    pub hit-is : f .hit ≡ has entryOf k es
-    unfolding part
-    hit-is =
-        has-entry n known (h .kept) es (h .knows) k (f .hit) (is .hit ∙ sym (has-rows n _ _ (table n known (h .kept) .starts) (table n known (h .kept) .ends) k))
+    hit-is : f .hit ≡ has entryOf k es
+    hit-is = lookups.hit-is n known (h .kept) k f is es (h .knows)
 
     pub place-le : f .at ≤ n
     place-le = omega (arith, place-is, rank-le entryOf k es, count-is n known infos lists es h)
@@ -164,7 +149,7 @@ module _ (n : ℕ) (known infos lists : List ℕ) (k : ℕ) (f : Found) (is : Is
           holds-now : Holds (suc n) known′ infos′ lists (put entryOf (new-entry k) es)
           holds-now =
               record {
-                kept = record { size = ka .size; few = omega arith; rising = rw rows-now (rising-rows (put entryOf (new-entry k) es) (put-rising entryOf (new-entry k) es (rising-entries es (rw (← h .knows .rows) (h .kept .rising))))) };
+                kept = record { size = ka .size; few = omega arith; rising = rw rows-now (rising-rows (put entryOf (new-entry k) es) (put-rising entryOf (new-entry k) es (entries-rise n known infos lists es h))) };
                 knows = record { rows = rows-now };
                 lent = li ∙ h .lent;
                 rows = infos-now;
@@ -181,10 +166,6 @@ module _ (n : ℕ) (known infos lists : List ℕ) (k : ℕ) (f : Found) (is : Is
 -- ---- what the functions need
 
 module _ (n : ℕ) (known infos lists : List ℕ) (g : Good n known infos lists) where
-  pub find-fits : (n ≤ length (part 0 1024 known)) × Rising self (take n (part 0 1024 known))
-  unfolding part
-  find-fits = (table n known (g .holds .kept) .starts, starts-rise n _ _ (table n known (g .holds .kept)))
-
   module _ (k m room : ℕ) (f : Found) (is : IsFound (take n (part 0 1024 known)) k f) (em : m ≡ min 1024 room) (lt : n < m) where
     pub insert-known-fits : (f .at ≤ n) × (n < 1024) × (length known ≡ 2048)
     insert-known-fits = (place-le n known infos lists k f is (g .entries) (g .holds), omega arith, g .holds .kept .size)

@@ -22,6 +22,7 @@ use Rattle.stored.proofs.Numbers.{numbers-count}
 use Rattle.entries.specs.Columns.{small-of}
 use Rattle.entries.specs.Table.{flag, flags, row-of, info-row, numbers-in, entry-numbers, flat, Begins, odd, RightIn, Holds, Good, Told, capacity}
 use Rattle.entries.proofs.Rows.{odd-flag, rows-long, right-at, flat-at, rest, form-at, begins-of, count-is, row-at, behind}
+use Rattle.entries.proofs.Lookups.{upper-there}
 use Rattle.entry_changes.specs.Changed.{analyzed-entry, with-end, KnownAre, IsAdded, fitted, marked, end-set}
 use Rattle.entry_changes.specs.declared.Added.{Added}
 use Rattle.entry_changes.proofs.Splicing.{flat-set, right-set}
@@ -71,15 +72,6 @@ module _ (cap : Capacity) where
 -- ---- the entry at k, where there is one
 
 module _ (k : ℕ) where
-  upper-there : (d e : Entry) (es : List Entry) → has entryOf k es ≡ true → upper entryOf k d es ≡ getD es (rank entryOf k es) e
-  unfolding if
-  upper-there d e [] t = absurd (false≢true t)
-  upper-there d e (x ∷ es) t = by (ltb (x .entry) k) t (upper-there d e es)
-    where
-      by : (b : Bool) → if b (has entryOf k es) (eqb (x .entry) k) ≡ true → (has entryOf k es ≡ true → upper entryOf k d es ≡ getD es (rank entryOf k es) e) → if b (upper entryOf k d es) x ≡ getD (x ∷ es) (if b (suc (rank entryOf k es)) 0) e
-      by true t f = f t
-      by false t f = refl
-
   module _ (fs : List Entry) (at : ℕ) (e : at ≡ rank entryOf k fs) (t : has entryOf k fs ≡ true) where
     key-at : getD fs at (new-entry 0) .entry ≡ k
     key-at = ap (λ (i : ℕ). getD fs i (new-entry 0) .entry) e ∙ has-at entryOf (new-entry 0) k fs t
@@ -89,7 +81,7 @@ module _ (k : ℕ) where
         put-old entryOf y fs (ap (λ (j : ℕ). has entryOf j fs) ey ∙ t) ∙ ap (λ (j : ℕ). set fs j y) (ap (λ (j : ℕ). rank entryOf j fs) ey ∙ sym e)
 
     upper-here : upper entryOf k (new-entry k) fs ≡ getD fs at (new-entry 0)
-    upper-here = upper-there (new-entry k) (new-entry 0) fs t ∙ ap (λ (i : ℕ). getD fs i (new-entry 0)) (sym e)
+    upper-here = upper-there k (new-entry k) (new-entry 0) fs t ∙ ap (λ (i : ℕ). getD fs i (new-entry 0)) (sym e)
 
     -- with its lists
     stored-here : (room : ℕ) (lists : List ℕ) (s : Slices) (end : ℕ) → fitting (capacity room lists) (put entryOf (analyzed-entry k end s) fs) ≡ fitted (length lists) (set fs at (analyzed-entry (getD fs at (new-entry 0) .entry) end s))

@@ -3,3 +3,4 @@ pub mod Adding
 pub mod Telling
 pub mod Storing
 pub mod Answers
+pub mod Symbols

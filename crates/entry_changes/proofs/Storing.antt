@@ -32,12 +32,12 @@ use Rattle.known.proofs.Entries.{table}
 use Rattle.stored.specs.Laid.{laid, Stored}
 use Rattle.entries.specs.Columns.{small-of, numbers-long}
 use Rattle.entries.specs.Table.{flag, flags, row, row-of, info-row, numbers-in, entry-numbers, flat, Begins, small-from, row-size, sizes, RightIn, Holds, Good, Told}
-use Rattle.entries.proofs.Rows as rows
+use Rattle.entries.proofs.Reading.{entries-rise}
 use Rattle.entries.proofs.Rows.{row-long, rows-long, sizes-laid, flat-at, begins-form, begins-le, count-is, row-within, offset-is, size-is, numbers-within}
 use Rattle.entry_changes.specs.Changed.{analyzed-entry, KnownAre, IsSpan, fitted}
 use Rattle.entry_changes.specs.declared.Span.{Span}
 use Rattle.entry_changes.proofs.Splicing.{splice-begins, over-begins, flat-set, right-set}
-use Rattle.entry_changes.proofs.Adding.{rising-entries, rising-rows}
+use Rattle.entry_changes.proofs.Adding.{rising-rows}
 use Rattle.entry_changes.proofs.Telling.{right-view, row-view}
 
 -- ---- a row written
@@ -106,7 +106,7 @@ module _ (n : ℕ) (known infos lists : List ℕ) (es : List Entry) (h : Holds n
   rising-now : Rising entryOf (set es i y)
   rising-now =
       keys-rising entryOf (set es i y)
-      (rw (map-set-same entryOf es i y (new-entry 0) ey) (rising-keys entryOf es (rising-entries es (rw (← h .knows .rows) (h .kept .rising)))))
+      (rw (map-set-same entryOf es i y (new-entry 0) ey) (rising-keys entryOf es (entries-rise n known infos lists es h)))
 
   pub kept-now : Kept n known′
   kept-now = record { size = ka .size; few = h .kept .few; rising = rw rows-now (rising-rows (set es i y) rising-now) }

@@ -1,5 +1,6 @@
+use Rattle.entries.proofs.Lookups.{find-fits}
 use Rattle.lists.specs.View.{part}
-use Rattle.entry_changes.proofs.Adding.{find-fits, already, full, insert-known-fits, insert-row-fits, added}
+use Rattle.entry_changes.proofs.Adding.{already, full, insert-known-fits, insert-row-fits, added}
 use borrow.Author.Needs.{needs}
 use Rattle.entry_changes.proofs.add_entry.Statement.{statement}
 use Rattle.entry_changes.proofs.add_entry.Tie as tie
@@ -18,7 +19,7 @@ part-find-end c = search needs
 
 find-requires : tie.Need-find-requires
 unfolding part
-find-requires c κs = let a = c .before .before .before .before .before .args in find-fits (a .n) (a .known .now) (a .infos .now) (a .lists .now) (c .before .before .before .before .before .pre)
+find-requires c κs = let a = c .before .before .before .before .before .args in find-fits (a .n) (a .known .now) (c .before .before .before .before .before .pre .holds .kept)
 
 same-length : tie.Need-same-length
 same-length c = search needs
