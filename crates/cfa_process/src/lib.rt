@@ -1,0 +1,126 @@
+// AnalyzerState::process_function_at: an entry is walked, and stored with its lists or set aside.
+ghost use mathlib.Core.Path.{_≡_};
+ghost use mathlib.Core.List.{List, []};
+ghost use lib.ListN.{length};
+ghost use Rattle.rules.specs.Slices.{with-only};
+ghost use Rattle.rules.specs.Known.{Entry, end-of-entry};
+ghost use Rattle.rules.specs.Analyze.{analyze};
+ghost use Rattle.rules.specs.Map as rules;
+ghost use Rattle.obj.specs.Lent.{Lent, image};
+ghost use Rattle.known.specs.Table.{Knows};
+ghost use Rattle.entries.specs.Table.{Holds, Good, capacity};
+ghost use Rattle.analyze.specs.Analysis.{IsAnalyzed};
+ghost use Rattle.cfa_entries.specs.Adding.{Entered};
+ghost use Rattle.cfa_process.specs.Displayed.{Displays, Displayed, Knowing};
+use cfa_entries::Entries;
+
+// The analysis of the function at key, up to its end if that is known, on an empty value.
+fn analyze_at(
+    sections: &[u32],
+    bytes: &[u8],
+    outcomes: &[u32],
+    functions: &[u32],
+    objects: &[u32],
+    skips: &[u32],
+    known: &[u64],
+    k: &mut [u64],
+    v: &mut [u64],
+    code: obj::sections::Code,
+    n: usize,
+    key: u64,
+) -> analyze::Analyzed
+    requires image { ⌜ Displayed (now sections) (now bytes) (now outcomes) (now functions) (now objects) (now skips) code ⌝ }
+    requires entries { ⌜ Knowing n (now known) ⌝ }
+    requires lent { ⌜ (length (now k) ≡ 2176) × (length (now v) ≡ 1536) ⌝ }
+    ensures { λ r. ⌜ ((l : Lent) (cap : rules.Capacity) (es : List Entry) → Displays l (now (sections .entry)) (now (bytes .entry)) (now (outcomes .entry)) (now (functions .entry)) (now (objects .entry)) (now (skips .entry)) code → Knows n (now (known .entry)) es → IsAnalyzed (analyze (rules.around (image l) cap key (end-of-entry key es) es) key (with-only [])) (now (k .exit)) (now (v .exit)) r) ⌝ }
+{
+    let s = lists::empty(k, v);
+    let end = entries::end_of_entry(known, n, key);
+    let a = callback::around::Around {
+        start: key,
+        end,
+        known: n,
+        code,
+    };
+    analyze::analyze(
+        sections,
+        bytes,
+        outcomes,
+        functions,
+        objects,
+        known,
+        k,
+        v,
+        a,
+        s,
+        key,
+    )
+}
+
+// An entry is walked: a function is stored, and where there is none the entry is set aside.
+pub fn process_function_at(
+    sections: &[u32],
+    bytes: &[u8],
+    outcomes: &[u32],
+    functions: &[u32],
+    objects: &[u32],
+    skips: &[u32],
+    known: &mut [u64],
+    infos: &mut [u64],
+    lists: &mut [u64],
+    k: &mut [u64],
+    v: &mut [u64],
+    code: obj::sections::Code,
+    n: usize,
+    room: usize,
+    key: u64,
+) -> Entries
+    requires image { ⌜ Displayed (now sections) (now bytes) (now outcomes) (now functions) (now objects) (now skips) code ⌝ }
+    requires good { ⌜ Good n (now known) (now infos) (now lists) ⌝ }
+    requires lent { ⌜ (length (now k) ≡ 2176) × (length (now v) ≡ 1536) ⌝ }
+    ensures { λ r. ⌜ ((l : Lent) (es : List Entry) → Displays l (now (sections .entry)) (now (bytes .entry)) (now (outcomes .entry)) (now (functions .entry)) (now (objects .entry)) (now (skips .entry)) code → Holds n (now (known .entry)) (now (infos .entry)) (now (lists .entry)) es → Entered (rules.process-function-at (image l) (capacity room (now (lists .entry))) key es) (r .count) (now (known .exit)) (now (infos .exit)) (now (lists .exit)) (r .fault)) ⌝ }
+{
+    let r = analyze_at(
+        sections,
+        bytes,
+        outcomes,
+        functions,
+        objects,
+        skips,
+        known,
+        k,
+        v,
+        code,
+        n,
+        key,
+    );
+    let small = r.small;
+    if small.fault != 0 {
+        return Entries {
+            count: n,
+            fault: small.fault,
+        };
+    }
+    if r.found {
+        return cfa_store::store_function(
+            sections,
+            bytes,
+            skips,
+            known,
+            infos,
+            lists,
+            k,
+            v,
+            code,
+            n,
+            room,
+            key,
+            small,
+        );
+    }
+    let t = entry_changes::set_aside(known, infos, lists, n, room, key);
+    Entries {
+        count: t.count,
+        fault: t.fault,
+    }
+}
