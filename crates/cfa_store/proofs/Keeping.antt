@@ -26,7 +26,8 @@ use Rattle.stored.proofs.Columns.{references-fit, possible-fit}
 use Rattle.walk.specs.State.{Listed}
 use Rattle.entries.specs.Table.{Holds, Good, Told, capacity}
 use Rattle.cfa_entries.specs.Adding.{Looks, Looking, Entered}
-use Rattle.cfa_entries.proofs.Keys.{Gone, gone, lost, keys-met}
+use Rattle.cfa_entries.proofs.Each.{Gone, gone, lost}
+use Rattle.cfa_entries.proofs.Keys.{keys-met}
 use Rattle.cfa_store.specs.Shown.{Shows, Shown}
 
 -- ---- what the image gives

@@ -22,13 +22,13 @@ shared-slice-read-try-add-function : tie.Need-shared-slice-read-try-add-function
 shared-slice-read-try-add-function c = search needs
 
 try-add-function-requires : tie.Need-try-add-function-requires Inv-loop μ-loop
-try-add-function-requires c κs = (c .before .before .before .before .loop .inv .good, c .before .before .before .before .before .before .before .before .before .before .pre .1 .0)
+try-add-function-requires c κs = (c .before .before .before .before .loop .inv .each .good, c .before .before .before .before .before .before .before .before .before .before .pre .1 .0)
 
 same-length : tie.Need-same-length Inv-loop μ-loop
-same-length c = c .before .before .before .before .before .known .given ∙ c .before .before .before .before .before .before .before .before .before .before .before .loop .inv .good .holds .kept .size ∙ sym (c .before .before .before .before .before .before .before .before .before .before .before .before .before .before .before .before .before .pre .0 .holds .kept .size)
+same-length c = c .before .before .before .before .before .known .given ∙ c .before .before .before .before .before .before .before .before .before .before .before .loop .inv .each .good .holds .kept .size ∙ sym (c .before .before .before .before .before .before .before .before .before .before .before .before .before .before .before .before .before .pre .0 .holds .kept .size)
 
 same-length-2 : tie.Need-same-length-2 Inv-loop μ-loop
-same-length-2 c = c .before .before .before .infos .given ∙ c .before .before .before .before .before .before .before .before .before .before .before .loop .inv .good .holds .lent ∙ sym (c .before .before .before .before .before .before .before .before .before .before .before .before .before .before .before .before .before .pre .0 .holds .lent)
+same-length-2 c = c .before .before .before .infos .given ∙ c .before .before .before .before .before .before .before .before .before .before .before .loop .inv .each .good .holds .lent ∙ sym (c .before .before .before .before .before .before .before .before .before .before .before .before .before .before .before .before .before .pre .0 .holds .lent)
 
 returns : tie.Need-returns Inv-loop μ-loop
 returns c = adding-stops _ _ _ _ _ _ _ _ _ _ _ _ _ _ (c .before .before .before .before .before .before .before .before .before .before .before .loop .inv) (c .before .before .before .before .before .before .before .before .before .before .loop-test .taken) (c .before .before .before .before .before .before .before .before .before .before .before .before .before .before .before .before .before .pre .1 .1 .1) _ _ _ _ (c .before .before .before .before .before .before .try-add-function .ensures) (c .if1 .taken)
@@ -43,10 +43,10 @@ loop-again : tie.Need-loop-again Inv-loop μ-loop
 loop-again c = adding-on _ _ _ _ _ _ _ _ _ _ _ _ _ _ (c .before .before .before .before .before .before .before .before .before .before .before .loop .inv) (c .before .before .before .before .before .before .before .before .before .before .loop-test .taken) (c .before .before .before .before .before .before .before .before .before .before .before .before .before .before .before .before .before .pre .1 .1 .1) _ _ _ _ (c .before .before .before .before .before .before .try-add-function .ensures) (c .before .before .before .before .before .before .before .before .before .before .before .before .before .before .before .before .before .pre .1 .1 .0) (c .if1 .left)
 
 same-length-3 : tie.Need-same-length-3 Inv-loop μ-loop
-same-length-3 c = c .before .loop .inv .good .holds .kept .size ∙ sym (c .before .before .before .before .before .before .before .pre .0 .holds .kept .size)
+same-length-3 c = c .before .loop .inv .each .good .holds .kept .size ∙ sym (c .before .before .before .before .before .before .before .pre .0 .holds .kept .size)
 
 same-length-4 : tie.Need-same-length-4 Inv-loop μ-loop
-same-length-4 c = c .before .loop .inv .good .holds .lent ∙ sym (c .before .before .before .before .before .before .before .pre .0 .holds .lent)
+same-length-4 c = c .before .loop .inv .each .good .holds .lent ∙ sym (c .before .before .before .before .before .before .before .pre .0 .holds .lent)
 
 returns-2 : tie.Need-returns-2 Inv-loop μ-loop
 returns-2 c = adding-ends _ _ _ _ _ _ _ _ _ _ _ _ _ _ (c .before .loop .inv) (c .loop-test .left)
