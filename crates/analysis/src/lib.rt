@@ -2,13 +2,14 @@
 ghost use mathlib.Core.Path.{_≡_};
 ghost use mathlib.Core.Bool.{true};
 ghost use mathlib.Core.List.{[], _∷_};
-ghost use Prim.Native.Nat.{_+_, _*_, _-_, _%_, min, _<_, _≤_};
+ghost use Prim.Native.Nat.{_+_, _*_, _-_, min, _<_, _≤_};
 ghost use lib.ListN.{length, drop};
 ghost use Rattle.rules.specs.Bytes.{words-in};
 ghost use Rattle.rules.specs.Image as images;
 ghost use Rattle.rules.specs.JumpTable as rules;
 ghost use Rattle.obj.specs.Lent.{Lent, image, seen};
 ghost use Rattle.obj.specs.Sections.{Few};
+ghost use Rattle.obj.specs.Symbols.{KeysAscend};
 ghost use Rattle.ordered.specs.Part.{Column};
 ghost use Rattle.analysis.specs.Tables.{IsTable, Live, IsTaken, IsStep, InPart, Passed, AtTable, entry-fault, sized-reading, unsized-reading, table-reading};
 ghost use Rattle.rules.specs.Given.{kind-of};
@@ -261,14 +262,14 @@ pub fn uniq_jump_table_entries(
     requires few { ⌜ Few (now sections) ⌝ }
     requires passed { ⌜ Passed (now sections) (now bytes) ⌝ }
     requires table { ⌜ AtTable (now sections) t ⌝ }
-    requires objects { ⌜ length (now objects) % 3 ≡ 0 ⌝ }
+    requires objects { ⌜ KeysAscend (now sections) (now objects) ⌝ }
     requires clear { ⌜ Column 256 0 (now entries) ⌝ }
     ensures { λ r. ⌜ ((l : Lent) → l .sections ≡ now (sections .entry) → l .bytes ≡ now (bytes .entry) → l .objects ≡ now (objects .entry) → IsTable (rules.jump-table-entries (image l) t size first past) (now (entries .exit)) r) ⌝ }
 {
     let p = obj::sections::section_of(sections, t);
     if holds_tables(p.kind) {
         let a = (t % 0x1_0000_0000) as u32;
-        let n = first_size(obj::symbols::known_size(objects, a), size);
+        let n = first_size(obj::symbols::known_size(sections, objects, a), size);
         return table_of_size(sections, bytes, p, a, n, first, past, entries);
     }
     Table {

@@ -24,12 +24,12 @@ use Rattle.obj.specs.Lent.{Lent, lent, rows, section-row, outcome-row, image, s
 use Rattle.obj.specs.Lent as lents
 use Rattle.obj.specs.Sections.{Few, IsCode, InBytes}
 use Rattle.obj.specs.Outcomes.{InCode, told-for, outcome-for}
-use Rattle.obj.specs.Symbols.{addresses}
+use Rattle.obj.specs.Symbols.{addresses, KeysAscend}
 use Rattle.obj.specs.declared.sections.Code.{Code}
 use Rattle.obj.specs.declared.outcomes.Told.{Told}
 use Rattle.obj.specs.declared.outcomes.Outcome as codes
 use Rattle.obj.specs.declared.outcomes.Outcome.the-variants.{GoOn, Illegal, Unknown, Return, Jump, JumpTable, Branches}
-use Rattle.obj.proofs.Ready.{few-sections, whole-functions, whole-objects, functions-rise, in-bytes, at-code}
+use Rattle.obj.proofs.Ready.{few-sections, whole-functions, functions-rise, objects-rise, in-bytes, at-code}
 use Rattle.obj.proofs.Rows.{rows-length}
 use Rattle.obj.proofs.Alike.{alike-seen}
 use Rattle.analysis.specs.Tables as tables
@@ -186,8 +186,8 @@ module _ (s b f x n : List ℕ) (a : Around) (e : steps.Around) (o : Of s b f x 
   unfolding check-image lents.given
   sections-passed = rw (← o .sections, ← o .bytes) image-passed
 
-  pub objects-whole : length x % 3 ≡ 0
-  objects-whole = rw (← o .objects) (whole-objects (o .lent) (o .checked))
+  pub objects-ascend : KeysAscend s x
+  objects-ascend = rw (← o .sections, ← o .objects) (objects-rise (o .lent) (o .checked))
 
   pub functions-whole : (length f % 3 ≡ 0) × Rising self (addresses f)
   functions-whole = rw (← o .functions) (whole-functions (o .lent) (o .checked), functions-rise (o .lent) (o .checked))

@@ -1,13 +1,14 @@
 // The entries of a jump table, as a walk takes them.
 ghost use mathlib.Core.Path.{_≡_};
 ghost use mathlib.Core.Bool.{Bool, true, _&&_, _||_};
-ghost use Prim.Native.Nat.{ℕ, _+_, _%_, _<_, _≤_};
+ghost use Prim.Native.Nat.{ℕ, _+_, _<_, _≤_};
 ghost use lib.Dec.{ltb, leb};
 ghost use lib.ListN.{length, take};
 ghost use Rattle.rules.specs.Choice.{any};
 ghost use Rattle.rules.specs.Step as rules;
 ghost use Rattle.obj.specs.Lent.{Lent, image};
 ghost use Rattle.obj.specs.Sections.{Few};
+ghost use Rattle.obj.specs.Symbols.{KeysAscend};
 ghost use Rattle.analysis.specs.Tables.{Passed, AtTable};
 ghost use Rattle.lists.specs.View.{view, Fit};
 ghost use Rattle.known.specs.Table.{Kept, Knows};
@@ -169,7 +170,7 @@ pub fn do_table(
     requires few { ⌜ Few (now sections) ⌝ }
     requires passed { ⌜ Passed (now sections) (now bytes) ⌝ }
     requires table { ⌜ AtTable (now sections) t ⌝ }
-    requires objects { ⌜ length (now objects) % 3 ≡ 0 ⌝ }
+    requires objects { ⌜ KeysAscend (now sections) (now objects) ⌝ }
     requires kept { ⌜ Kept (a .known) (now known) ⌝ }
     requires going { ⌜ Going (now k) (now v) w ⌝ }
     requires word { ⌜ Inside addr ⌝ }

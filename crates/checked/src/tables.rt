@@ -1,8 +1,6 @@
 // An image whose lists are whole: its number, and its jump tables.
-ghost use mathlib.Core.Path.{_≡_};
-ghost use Prim.Native.Nat.{_%_};
-ghost use lib.ListN.{length};
 ghost use Rattle.obj.specs.Sections.{Few};
+ghost use Rattle.obj.specs.Symbols.{KeysAscend};
 ghost use Rattle.ordered.specs.Part.{Column};
 ghost use Rattle.analysis.specs.Tables.{Passed};
 
@@ -83,7 +81,7 @@ fn print_table(
 )
     requires few { ⌜ Few (now sections) ⌝ }
     requires passed { ⌜ Passed (now sections) (now bytes) ⌝ }
-    requires objects { ⌜ length (now objects) % 3 ≡ 0 ⌝ }
+    requires objects { ⌜ KeysAscend (now sections) (now objects) ⌝ }
 {
     let t = obj::sections::locate(sections, a);
     if obj::sections::is_in_section(sections, t) {
@@ -123,7 +121,7 @@ fn print_branch(
 )
     requires few { ⌜ Few (now sections) ⌝ }
     requires passed { ⌜ Passed (now sections) (now bytes) ⌝ }
-    requires objects { ⌜ length (now objects) % 3 ≡ 0 ⌝ }
+    requires objects { ⌜ KeysAscend (now sections) (now objects) ⌝ }
 {
     if way % 4 == 2 {
         print_table(sections, bytes, functions, objects, word, a, 0);
@@ -141,7 +139,7 @@ fn print_outcome(
 )
     requires few { ⌜ Few (now sections) ⌝ }
     requires passed { ⌜ Passed (now sections) (now bytes) ⌝ }
-    requires objects { ⌜ length (now objects) % 3 ≡ 0 ⌝ }
+    requires objects { ⌜ KeysAscend (now sections) (now objects) ⌝ }
 {
     if row[0] == 5 {
         print_table(sections, bytes, functions, objects, word, row[1], row[2]);
@@ -162,7 +160,7 @@ fn print_tables(
 )
     requires few { ⌜ Few (now sections) ⌝ }
     requires passed { ⌜ Passed (now sections) (now bytes) ⌝ }
-    requires objects { ⌜ length (now objects) % 3 ≡ 0 ⌝ }
+    requires objects { ⌜ KeysAscend (now sections) (now objects) ⌝ }
 {
     let mut at: usize = 0;
     let mut word = obj::sections::code_section(sections).base;

@@ -16,10 +16,10 @@ use Rattle.rules.specs.Given.{SectionRow, SymbolRow}
 use Rattle.rules.specs.Check as rules
 use Rattle.rules.proofs.Tests.{and-left, and-right, and-both}
 use Rattle.rules.proofs.Passes.{Passed, passed-of, checked-of}
-use Rattle.obj_image.specs.Lent.{Lent, rows, section-row, outcome-row, symbol-row, skip-row, given, image}
+use Rattle.obj_image.specs.Lent.{Lent, lent, rows, section-row, outcome-row, symbol-row, skip-row, given, image, seen}
 use Rattle.obj.specs.Sections.{Few, IsCode, InBytes}
 use Rattle.obj.specs.Outcomes.{InCode}
-use Rattle.obj_rows.specs.Symbols.{addresses}
+use Rattle.obj_rows.specs.Symbols.{addresses, KeysAscend}
 use Rattle.obj_rows.specs.Skips.{is-nonempty, Ascending}
 use Rattle.obj.specs.declared.sections.Code.{Code}
 use Rattle.obj_image.proofs.Rows.{rows-count, whole-of}
@@ -118,6 +118,19 @@ module _ (l : Lent) (checked : rules.check (given l) ≡ 0) where
       let ky : locate (image l) (y .address) ≡ key (code-number (image l)) (y .address) = code-key (y .address) (in-code-section y (and-left _ _ ys)) in
       (omega arith, rising (y ∷ rs) ys (and-right (rules.is-below (image l) x y) _ q))
 
+  -- object symbols ascend by their keys, which the sections alone say
+  key-seen : (a : ℕ) → locate (image l) a ≡ locate (seen (l .sections)) a
+  key-seen a =
+      let s : List ℕ = l .sections in
+      sym (located s a (locate-in 1 (rows 4 section-row s) a) refl l refl) ∙ located s a (locate-in 1 (rows 4 section-row s) a) refl (lent s [] [] [] [] [] []) refl
+
+  keys-rise : (rs : List SymbolRow) → rules.chained (rules.is-below (image l)) rs ≡ true → Rising self (map (λ (x : SymbolRow). locate (seen (l .sections)) (x .address)) rs)
+  keys-rise [] q = tt
+  keys-rise (x ∷ []) q = (tt, tt)
+  keys-rise (x ∷ y ∷ rs) q =
+      let lt : locate (image l) (x .address) < locate (image l) (y .address) = ltb-true _ _ (and-left _ _ q) in
+      (omega (arith, key-seen (x .address), key-seen (y .address)), keys-rise (y ∷ rs) (and-right (rules.is-below (image l) x y) _ q))
+
   -- the parts of check 3
   functions-pass : rules.are-symbols (image l) (rules.is-function-symbol (image l)) (rows 3 symbol-row (l .functions)) ≡ true
   unfolding rules.check-rest given
@@ -140,7 +153,7 @@ module _ (l : Lent) (checked : rules.check (given l) ≡ 0) where
   unfolding if
   whole-functions = whole-of 3 (omega arith) symbol-row (rules.is-function-symbol (image l)) (not-a-symbol (image l) true) (l .functions) (and-right (leb (length (rows 3 symbol-row (l .functions))) 1024) _ (and-left _ _ functions-pass))
 
-  pub whole-objects : length (l .objects) % 3 ≡ 0
+  whole-objects : length (l .objects) % 3 ≡ 0
   unfolding if
   whole-objects = whole-of 3 (omega arith) symbol-row (rules.is-object-symbol (image l)) (not-a-symbol (image l) false) (l .objects) (and-right (leb (length (rows 3 symbol-row (l .objects))) 1024) _ (and-left _ _ objects-pass))
 
@@ -160,6 +173,14 @@ module _ (l : Lent) (checked : rules.check (given l) ≡ 0) where
   functions-rise =
       rising (rows 3 symbol-row (l .functions)) (and-right (leb (length (rows 3 symbol-row (l .functions))) 1024) _ (and-left _ _ functions-pass))
       (and-right (leb (length (rows 3 symbol-row (l .functions))) 1024 && rules.all (rules.is-function-symbol (image l)) (rows 3 symbol-row (l .functions))) _ functions-pass)
+
+  -- and of the object symbols
+  pub objects-rise : KeysAscend (l .sections) (l .objects)
+  objects-rise =
+      record {
+        whole = whole-objects;
+        rise = keys-rise (rows 3 symbol-row (l .objects)) (and-right (leb (length (rows 3 symbol-row (l .objects))) 1024 && rules.all (rules.is-object-symbol (image l)) (rows 3 symbol-row (l .objects))) _ objects-pass);
+      }
 
   pub whole-outcomes : length (l .outcomes) % 6 ≡ 0
   unfolding rules.check-outcomes given

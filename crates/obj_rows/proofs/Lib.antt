@@ -4,3 +4,4 @@ pub mod SkipHalving
 pub mod SymbolRows
 pub mod Seen
 pub mod Halving
+pub mod KeyHalving

@@ -15,9 +15,8 @@ use Rattle.rules.specs.Check as rules
 use Rattle.rules.specs.JumpTable.{known-size}
 use Rattle.obj_image.specs.Lent.{Lent, rows, symbol-row, given, image}
 use Rattle.obj_rows.specs.Symbols.{symbol-of, symbol-holds}
-use Rattle.obj_rows.specs.declared.symbols.Symbol.{Symbol}
 use Rattle.obj_image.proofs.Halves.{half-function, half-object}
-use Rattle.obj_image.proofs.Rows.{row-here, row-end, rows-count, not-whole, middle-false}
+use Rattle.obj_image.proofs.Rows.{row-here, rows-count, not-whole, middle-false}
 
 -- a symbol's row, by its numbers
 pub symbol-here : (l : List ℕ) (at : ℕ) → at + 3 ≤ length l → rows 3 symbol-row (drop at l) ≡ symbol-of (record { address = getD l at 0; size = getD l (at + 1) 0; known = getD l (at + 2) 0 }) ∷ rows 3 symbol-row (drop (at + 3) l)
@@ -32,16 +31,6 @@ size-in a rs = known-size a (map givens.symbol-of rs)
 pub sized : (s : List ℕ) (a r : ℕ) → r ≡ size-in a (rows 3 symbol-row s) → (l : Lent) → l .objects ≡ s → r ≡ known-size a (image l .objects)
 unfolding image-of given
 sized s a r h l e = h ∙ sym (ap (λ (t : List ℕ). size-in a (rows 3 symbol-row t)) e)
-
-module _ (x : Symbol) (rest tail : List SymbolRow) (a whole : ℕ) (same : size-in a rest ≡ whole) (next : rest ≡ symbol-of x ∷ tail) where
-  pub size-here : (eqb (x .address) a && eqb (x .known) 1) ≡ true → x .size ≡ whole
-  size-here h = sym (if-true h _ _) ∙ ap (size-in a) (sym next) ∙ same
-
-  pub size-later : (eqb (x .address) a && eqb (x .known) 1) ≡ false → size-in a tail ≡ whole
-  size-later h = sym (if-false h _ _) ∙ ap (size-in a) (sym next) ∙ same
-
-pub size-none : (l : List ℕ) (at a whole : ℕ) → size-in a (rows 3 symbol-row (drop at l)) ≡ whole → length l ≤ at → 0 ≡ whole
-size-none l at a whole same h = sym (ap (size-in a) (row-end 3 (omega arith) symbol-row l at h)) ∙ same
 
 -- ---- the tests
 

@@ -8,7 +8,7 @@ ghost use Rattle.rules.specs.Check as rules;
 ghost use Rattle.rules.specs.JumpTable.{known-size};
 ghost use Rattle.obj_image.specs.Lent.{Lent, rows, symbol-row, image, seen};
 ghost use Rattle.obj_image.specs.Sections.{Few};
-ghost use Rattle.obj_rows.specs.Symbols.{symbol-of, addresses};
+ghost use Rattle.obj_rows.specs.Symbols.{symbol-of, addresses, keys, KeysAscend};
 use obj_image::sections::locate;
 
 // A symbol by value.
@@ -62,19 +62,38 @@ pub fn symbols_ascend(sections: &[u32], symbols: &[u32]) -> bool
     true
 }
 
-// The known size of the object symbol at an address; 0 for none. Symbols ascend by section first, and sections need not: so this
-// looks at one after the other. There are at most 1,024, and jump tables are few.
-pub fn known_size(objects: &[u32], a: u32) -> u32
-    requires { ⌜ length (now objects) % 3 ≡ 0 ⌝ }
+// How many object symbols have keys below a key, by halving.
+fn keys_below(sections: &[u32], objects: &[u32], k: u64) -> usize
+    requires few { ⌜ Few (now sections) ⌝ }
+    requires objects { ⌜ KeysAscend (now sections) (now objects) ⌝ }
+    ensures { λ r. ⌜ (r ≡ rank self k (keys (now (sections .entry)) (now (objects .entry)))) × (r * 3 ≤ length (now (objects .entry))) ⌝ }
+{
+    let mut lo: usize = 0;
+    let mut hi = objects.len() / 3;
+    while lo < hi {
+        let mid = lo + (hi - lo) / 2;
+        if locate(sections, objects[mid * 3]) < k {
+            lo = mid + 1;
+        } else {
+            hi = mid;
+        }
+    }
+    lo
+}
+
+// The known size of the object symbol at an address; 0 for none. Symbols ascend by their keys, section first, so that only the first
+// whose key is not below the address's own can lie there.
+pub fn known_size(sections: &[u32], objects: &[u32], a: u32) -> u32
+    requires few { ⌜ Few (now sections) ⌝ }
+    requires objects { ⌜ KeysAscend (now sections) (now objects) ⌝ }
     ensures { λ r. ⌜ ((l : Lent) → l .objects ≡ now (objects .entry) → r ≡ known-size a (image l .objects)) ⌝ }
 {
-    let mut at: usize = 0;
-    while at < objects.len() {
+    let at = keys_below(sections, objects, locate(sections, a)) * 3;
+    if at < objects.len() {
         let s = symbol_at(objects, at);
         if (s.address == a) & (s.known == 1) {
             return s.size;
         }
-        at += 3;
     }
     0
 }

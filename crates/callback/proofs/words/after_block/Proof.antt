@@ -1,5 +1,5 @@
 use native.Mathlib.Omega.{arith}
-use Rattle.callback.proofs.Lends.{alike, few, sections-passed, objects-whole, functions-whole, small-code, located-low, located-in}
+use Rattle.callback.proofs.Lends.{alike, few, sections-passed, objects-ascend, functions-whole, small-code, located-low, located-in}
 use Rattle.callback.proofs.WordCases.{after-go-on, after-illegal, after-unknown, after-return, after-jump, after-table, after-branches}
 use borrow.Author.Needs.{needs}
 use Rattle.callback.proofs.words.after_block.Statement.{statement}
@@ -36,7 +36,7 @@ locate-requires-2 : tie.Need-locate-requires-2
 locate-requires-2 c κs = few _ _ _ _ _ _ _ (c .before .before .before .before .before .before .before .before .before .before .pre .0 .of)
 
 do-table-requires : tie.Need-do-table-requires
-do-table-requires c κs = (few _ _ _ _ _ _ _ (c .before .before .before .before .before .before .before .before .before .before .before .before .before .pre .0 .of), (sections-passed _ _ _ _ _ _ _ (c .before .before .before .before .before .before .before .before .before .before .before .before .before .pre .0 .of), (located-in _ (few _ _ _ _ _ _ _ (c .before .before .before .before .before .before .before .before .before .before .before .before .before .pre .0 .of)) _ _ (omega arith) (c .before .before .locate2 .ensures) (rw (c .before .before .before .before .outcome2 .given .1) at (c .before .before .before .before .before .before .before .before .before .before .before .before .before .pre .1 .1 .1)), (objects-whole _ _ _ _ _ _ _ (c .before .before .before .before .before .before .before .before .before .before .before .before .before .pre .0 .of), (c .before .before .before .before .before .before .before .before .before .before .before .before .before .pre .0 .of .kept, (c .before .before .before .before .before .before .before .before .before .before .before .before .before .pre .1 .0, c .before .before .before .before .before .before .before .before .before .before .before .before .before .pre .1 .1 .0))))))
+do-table-requires c κs = (few _ _ _ _ _ _ _ (c .before .before .before .before .before .before .before .before .before .before .before .before .before .pre .0 .of), (sections-passed _ _ _ _ _ _ _ (c .before .before .before .before .before .before .before .before .before .before .before .before .before .pre .0 .of), (located-in _ (few _ _ _ _ _ _ _ (c .before .before .before .before .before .before .before .before .before .before .before .before .before .pre .0 .of)) _ _ (omega arith) (c .before .before .locate2 .ensures) (rw (c .before .before .before .before .outcome2 .given .1) at (c .before .before .before .before .before .before .before .before .before .before .before .before .before .pre .1 .1 .1)), (objects-ascend _ _ _ _ _ _ _ (c .before .before .before .before .before .before .before .before .before .before .before .before .before .pre .0 .of), (c .before .before .before .before .before .before .before .before .before .before .before .before .before .pre .0 .of .kept, (c .before .before .before .before .before .before .before .before .before .before .before .before .before .pre .1 .0, c .before .before .before .before .before .before .before .before .before .before .before .before .before .pre .1 .1 .0))))))
 
 enum-known-outcome-3 : tie.Need-enum-known-outcome-3
 enum-known-outcome-3 c = search needs

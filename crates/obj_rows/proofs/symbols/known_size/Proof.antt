@@ -1,45 +1,31 @@
 -- `obj::symbols::known_size` is `known-size` of `rules`. Assumes nothing.
-use Prim.Native.Nat.{_-_, _%_, _≤_}
-use mathlib.Core.Path.{_≡_, refl}
+use mathlib.Core.Path.{refl}
 use native.Mathlib.Omega.{arith}
-use lib.ListN.{length, drop}
-use Rattle.obj_image.specs.Lent.{rows, symbol-row}
-use Rattle.obj_rows.proofs.SymbolRows.{size-in, sized, size-here, size-later, size-none}
+use Rattle.obj_rows.proofs.KeyHalving.{size-here, size-elsewhere, size-none}
 use borrow.Author.Needs.{needs}
 use Rattle.obj_rows.proofs.symbols.known_size.Statement.{statement}
 use Rattle.obj_rows.proofs.symbols.known_size.Tie as tie
 
-abbrev Inv-loop : tie.InvT-loop
-Inv-loop objects a at₀ at = (at ≤ length objects) × (at % 3 ≡ 0) × (size-in a (rows 3 symbol-row (drop at objects)) ≡ size-in a (rows 3 symbol-row objects))
+symbol-at-requires : tie.Need-symbol-at-requires
+symbol-at-requires c κs = omega (arith, c .before .before .before .before .before .pre .1 .whole)
 
-abbrev μ-loop : tie.MeasureT-loop
-μ-loop objects a at₀ at = length objects - at
+returns : tie.Need-returns
+returns c = size-here _ _ (c .before .before .before .before .before .before .before .before .before .pre .1) _ _ _ _ (c .before .before .before .before .before .before .locate .ensures) (c .before .before .before .before .before .keys-below .ensures .0) refl _ _ (c .before .before .before .symbol-at .ensures) (c .if2 .taken)
 
-loop-holds : tie.Need-loop-holds Inv-loop μ-loop
-loop-holds c = (omega arith, omega arith, refl)
+returns-2 : tie.Need-returns-2
+returns-2 c = size-elsewhere _ _ (c .before .before .before .before .before .before .before .before .before .pre .1) _ _ _ _ (c .before .before .before .before .before .before .locate .ensures) (c .before .before .before .before .before .keys-below .ensures .0) refl _ _ (c .before .before .before .symbol-at .ensures) (c .if2 .left)
 
-returns : tie.Need-returns Inv-loop μ-loop
-returns c = sized _ _ _ (search (needs, size-here))
-
-loop-less : tie.Need-loop-less Inv-loop μ-loop
-loop-less c = omega arith
-
-loop-again : tie.Need-loop-again Inv-loop μ-loop
-loop-again c = (omega arith, omega arith, search (needs, size-later))
-
-returns-2 : tie.Need-returns-2 Inv-loop μ-loop
-returns-2 c = sized _ _ _ (search (needs, size-none))
+returns-3 : tie.Need-returns-3
+returns-3 c = size-none _ _ (c .before .before .before .before .before .pre .1) _ _ _ _ (c .before .before .locate .ensures) (c .before .keys-below .ensures .0) refl (c .if1 .left)
 
 pub known-size-spec : {M : Type 1} → statement M
 known-size-spec =
     tie.close
     (tie.spec
-    Inv-loop
-    μ-loop
-    loop-holds
     (λ c κs. search needs)
+    (λ c κs. search needs)
+    (λ c. omega arith)
+    symbol-at-requires
     returns
-    (λ c. search needs)
-    loop-less
-    loop-again
-    returns-2)
+    returns-2
+    returns-3)
