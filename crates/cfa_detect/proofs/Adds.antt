@@ -6,7 +6,7 @@ use native.Mathlib.Omega.{arith}
 use lib.ListN.{length, take, drop, getD}
 use lib.Seq.{drop-cons, getD-take, length-take-le}
 use Rattle.rules.specs.Choice.{Answer, ok, fault, _>>=_}
-use Rattle.rules.specs.Loop.{result, number, bind-fails, if-fails}
+use Rattle.rules.specs.Loop.{result, number, if-fails}
 use Rattle.rules.specs.Image.{Image}
 use Rattle.rules.specs.Known.{Entry}
 use Rattle.rules.specs.Map as rules
@@ -18,11 +18,7 @@ add-met : (cap : rules.Capacity) (k : ℕ) (es : List Entry) → Met (rules.add-
 unfolding rules.add-entry
 add-met cap k es = if-fails (λ _. result) (λ _. limited-met _ _)
 
-pub adds-met : (im : Image) (cap : rules.Capacity) (ks : List ℕ) (es : List Entry) → Met (rules.add-entries im cap ks es)
-adds-met im cap [] es = result
-adds-met im cap (k ∷ ks) es = bind-fails (add-met cap k es) (λ fs. adds-met im cap ks fs)
-
-pub data Came (n : ℕ) (known infos lists : List ℕ) (f : ℕ) : Answer (List Entry) → Type 0 where
+data Came (n : ℕ) (known infos lists : List ℕ) (f : ℕ) : Answer (List Entry) → Type 0 where
   went : {es : List Entry} → Holds n known infos lists es → f ≡ 0 → Came n known infos lists f (ok es)
   stopped : {m : ℕ} → f ≡ m → (m ≡ 0 → ⊥) → Came n known infos lists f (fault m)
 

@@ -1,2 +1,3 @@
 pub mod Adds
 pub mod Search
+pub mod Rounds

@@ -1,11 +1,9 @@
 -- New entries behind the ends of the entries, in order.
-use Prim.Native.Nat.{ℕ, zero, suc, _+_, _≤_, _<_}
-use mathlib.Core.Path.{_≡_, refl, sym, ap, ap₂, _∙_}
-use mathlib.Core.Bool.{Bool, true, false}
-use mathlib.Core.List.{List, [], _∷_, _++_, map, append-assoc, append-nil}
+use Prim.Native.Nat.{ℕ, _+_, _≤_, _<_}
+use mathlib.Core.Path.{_≡_, refl, sym, ap, _∙_}
+use mathlib.Core.List.{List, [], _∷_, _++_, append-assoc, append-nil}
 use native.Mathlib.Numerals.{add-one}
 use native.Mathlib.Omega.{arith}
-use lib.Dec.{eqb}
 use lib.ListN.{length, take, drop, set, getD, drop-of-length-le, length-map}
 use lib.Seq.{drop-cons, take-suc-set}
 use borrow.Author.Tests.{eq-eqb, ne-eqb}
@@ -22,7 +20,6 @@ use Rattle.entries.proofs.Lookups.{entry-at, end-at}
 use Rattle.gaps.specs.Looks.{Looks, some-key, found-of}
 use Rattle.gaps.specs.declared.Found.{Found}
 use Rattle.cfa_detect.specs.Behind.{Put, news-of, IsNews}
-use Rattle.cfa_detect.specs.declared.News.{News}
 
 -- ---- a key put behind others
 

@@ -3,14 +3,16 @@ use mathlib.Core.Path.{_≡_}
 use mathlib.Core.List.{List, _++_}
 use Prim.Native.Nat.{ℕ, _+_, _≤_}
 use lib.Dec.{eqb}
-use lib.ListN.{length, take}
+use lib.ListN.{take}
 use Rattle.rules.specs.Choice.{if, Answer, ok, fault}
 use Rattle.rules.specs.Known.{Entry}
-use Rattle.rules.specs.Map.{Capacity, new-functions}
+use Rattle.rules.specs.Map.{Capacity, Round, new-functions}
 use Rattle.obj.specs.Lent.{Lent, image}
 use Rattle.obj.specs.declared.sections.Code.{Code}
 use Rattle.known.specs.Table.{Knows}
+use Rattle.entries.specs.Table.{Holds}
 use Rattle.gaps.specs.Looks.{Looks, some-key}
+use Rattle.cfa_detect.specs.declared.Detected.{Detected}
 use Rattle.cfa_detect.specs.declared.News.{News}
 
 -- a key, if it is one, behind the m others
@@ -26,3 +28,11 @@ news-of r keys = if (eqb (r .fault) 0) (ok (take (r .count) keys)) (fault (r .fa
 pub record IsNews (bs sk : List ℕ) (c : Code) (n : ℕ) (known keys : List ℕ) (r : News) : Type 0 where
   pub few : r .count ≤ n
   pub is : (l : Lent) (cap : Capacity) (es : List Entry) → Looks bs sk c l → Knows n known es → new-functions (image l) cap es ≡ news-of r keys
+
+-- the n entries that the slices hold are those of a round, and whether it changed any is told; or its fault is
+abbrev pub Rounded : Answer Round → List ℕ → List ℕ → List ℕ → Detected → Type 0
+Rounded (ok t) known infos lists r = Holds (r .count) known infos lists (t .entries) × (r .changed ≡ t .changed) × (r .fault ≡ 0)
+Rounded (fault m) known infos lists r = r .fault ≡ m
+
+pub record IsRound (a : Answer Round) (known infos lists : List ℕ) (r : Detected) : Type 0 where
+  pub told : Rounded a known infos lists r

@@ -14,7 +14,7 @@ ghost use Rattle.known.specs.Table.{Kept, Knows};
 ghost use Rattle.entries.specs.Table.{Holds, Good, capacity};
 ghost use Rattle.gaps.specs.Looks.{Looks};
 ghost use Rattle.cfa_entries.specs.Adding.{Entered};
-ghost use Rattle.cfa_detect.specs.Behind.{Put, IsNews};
+ghost use Rattle.cfa_detect.specs.Behind.{Put, IsNews, IsRound};
 
 // The entry behind entry i, or the section's end.
 fn next_entry(known: &[u64], code: obj::sections::Code, n: usize, i: usize) -> u64
@@ -106,4 +106,44 @@ fn add_entries(
         i += 1;
     }
     cfa_entries::Entries { count, fault: 0 }
+}
+
+// How many entries there are, whether any is new, and the fault, 0 for none.
+pub struct Detected {
+    pub count: usize,
+    pub changed: bool,
+    pub fault: u32,
+}
+
+// An entry for each function found behind an end; none is added where an end lies above the next entry.
+pub fn detect_new_functions(
+    bytes: &[u8],
+    skips: &[u32],
+    known: &mut [u64],
+    infos: &mut [u64],
+    lists: &[u64],
+    code: obj::sections::Code,
+    n: usize,
+    room: usize,
+) -> Detected
+    requires lent { ⌜ InBytes (now bytes) code × Ascending (now skips) ⌝ }
+    requires low { ⌜ (code .number < 16) × (0 < code .number) ⌝ }
+    requires good { ⌜ Good n (now known) (now infos) (now lists) ⌝ }
+    ensures { λ r. ⌜ ((l : Lent) (es : List Entry) → Looks (now (bytes .entry)) (now (skips .entry)) code l → Holds n (now (known .entry)) (now (infos .entry)) (now (lists .entry)) es → IsRound (rules.detect-new-functions (image l) (capacity room (now (lists .entry))) es) (now (known .exit)) (now (infos .exit)) (now (lists .entry)) r) ⌝ }
+{
+    let mut keys: [u64; 1024] = [0; 1024];
+    let f = new_functions(bytes, skips, known, code, n, &mut keys);
+    if f.fault != 0 {
+        return Detected {
+            count: n,
+            changed: false,
+            fault: f.fault,
+        };
+    }
+    let r = add_entries(known, infos, lists, n, room, &keys, f.count);
+    Detected {
+        count: r.count,
+        changed: f.count != 0,
+        fault: r.fault,
+    }
 }

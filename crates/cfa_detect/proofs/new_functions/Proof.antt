@@ -2,7 +2,6 @@ use Rattle.cfa_detect.proofs.Search.{Seeking, seek-first, seek-ends, se
 use Prim.Native.Nat.{_-_}
 use mathlib.Core.Path.{sym, _∙_}
 use native.Mathlib.Omega.{arith}
-use borrow.Author.Needs.{needs}
 use Rattle.cfa_detect.proofs.new_functions.Statement.{statement}
 use Rattle.cfa_detect.proofs.new_functions.Tie as tie
 

@@ -1,6 +1,5 @@
 use Rattle.cfa_detect.proofs.Search.{next-there, next-end}
 use native.Mathlib.Omega.{arith}
-use borrow.Author.Needs.{needs}
 use Rattle.cfa_detect.proofs.next_entry.Statement.{statement}
 use Rattle.cfa_detect.proofs.next_entry.Tie as tie
 
