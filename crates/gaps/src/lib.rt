@@ -56,7 +56,8 @@ pub struct Found {
     pub fault: u32,
 }
 
-fn section_end(code: obj::sections::Code) -> u64
+// The first address past the code section.
+pub fn section_end(code: obj::sections::Code) -> u64
     requires { ⌜ code .number < 16 ⌝ }
     ensures { λ r. ⌜ ((l : Lent) (cap : rules.Capacity) (b sk : List ℕ) → Looks b sk code l → r ≡ rules.section-end (image l) cap) ⌝ }
 {

@@ -1,0 +1,72 @@
+use Rattle.cfa_detect.proofs.Adds.{Adding, adding-first, adding-ends, adding-stops, adding-on}
+use Prim.Native.Nat.{_-_}
+use mathlib.Core.Path.{sym, _∙_}
+use native.Mathlib.Omega.{arith}
+use borrow.Author.Needs.{needs}
+use Rattle.cfa_detect.proofs.add_entries.Statement.{statement}
+use Rattle.cfa_detect.proofs.add_entries.Tie as tie
+
+abbrev Inv-loop : tie.InvT-loop
+Inv-loop known₀ infos₀ lists n room keys m count₀ i₀ known infos count i = Adding room lists keys n known₀ infos₀ m i count known infos 0
+
+abbrev μ-loop : tie.MeasureT-loop
+μ-loop known₀ infos₀ lists n room keys m count₀ i₀ known infos count i = m - i
+
+loop-holds : tie.Need-loop-holds Inv-loop μ-loop
+loop-holds c = adding-first _ _ _ _ _ _ _ (c .before .before .before .before .pre .0)
+
+mul-add-entry : tie.Need-mul-add-entry Inv-loop μ-loop
+mul-add-entry c = search needs
+
+shared-slice-read-add-entry : tie.Need-shared-slice-read-add-entry Inv-loop μ-loop
+shared-slice-read-add-entry c = search needs
+
+add-entry-requires : tie.Need-add-entry-requires Inv-loop μ-loop
+add-entry-requires c κs = c .before .before .before .before .loop .inv .good
+
+same-length : tie.Need-same-length Inv-loop μ-loop
+same-length c = c .before .before .before .before .before .known .given ∙ c .before .before .before .before .before .before .before .before .before .before .before .loop .inv .good .holds .kept .size ∙ sym (c .before .before .before .before .before .before .before .before .before .before .before .before .before .before .before .before .pre .0 .holds .kept .size)
+
+same-length-2 : tie.Need-same-length-2 Inv-loop μ-loop
+same-length-2 c = c .before .before .before .infos .given ∙ c .before .before .before .before .before .before .before .before .before .before .before .loop .inv .good .holds .lent ∙ sym (c .before .before .before .before .before .before .before .before .before .before .before .before .before .before .before .before .pre .0 .holds .lent)
+
+returns : tie.Need-returns Inv-loop μ-loop
+returns c = adding-stops _ _ _ _ _ _ _ _ _ _ _ _ (c .before .before .before .before .before .before .before .before .before .before .before .loop .inv) (c .before .before .before .before .before .before .before .before .before .before .loop-test .taken) (c .before .before .before .before .before .before .before .before .before .before .before .before .before .before .before .before .pre .1) _ _ _ _ (λ es h. c .before .before .before .before .before .before .add-entry .ensures es h .told) (c .if1 .taken)
+
+add-i : tie.Need-add-i Inv-loop μ-loop
+add-i c = search needs
+
+loop-less : tie.Need-loop-less Inv-loop μ-loop
+loop-less c = omega (arith, c .before .before .before .before .before .before .before .before .before .before .loop-test .taken)
+
+loop-again : tie.Need-loop-again Inv-loop μ-loop
+loop-again c = adding-on _ _ _ _ _ _ _ _ _ _ _ _ (c .before .before .before .before .before .before .before .before .before .before .before .loop .inv) (c .before .before .before .before .before .before .before .before .before .before .loop-test .taken) (c .before .before .before .before .before .before .before .before .before .before .before .before .before .before .before .before .pre .1) _ _ _ _ (λ es h. c .before .before .before .before .before .before .add-entry .ensures es h .told) (c .if1 .left)
+
+same-length-3 : tie.Need-same-length-3 Inv-loop μ-loop
+same-length-3 c = c .before .loop .inv .good .holds .kept .size ∙ sym (c .before .before .before .before .before .before .pre .0 .holds .kept .size)
+
+same-length-4 : tie.Need-same-length-4 Inv-loop μ-loop
+same-length-4 c = c .before .loop .inv .good .holds .lent ∙ sym (c .before .before .before .before .before .before .pre .0 .holds .lent)
+
+returns-2 : tie.Need-returns-2 Inv-loop μ-loop
+returns-2 c = adding-ends _ _ _ _ _ _ _ _ _ _ _ _ (c .before .loop .inv) (c .loop-test .left)
+
+pub add-entries-spec : {M : Type 1} → statement M
+add-entries-spec =
+    tie.close
+    (tie.spec
+    Inv-loop
+    μ-loop
+    loop-holds
+    mul-add-entry
+    shared-slice-read-add-entry
+    add-entry-requires
+    same-length
+    same-length-2
+    returns
+    add-i
+    loop-less
+    loop-again
+    same-length-3
+    same-length-4
+    returns-2)
