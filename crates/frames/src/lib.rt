@@ -1,0 +1,2 @@
+// The frames of `fmap`, one to a line.
+pub mod line;
