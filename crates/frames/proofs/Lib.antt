@@ -1,3 +1,4 @@
 pub mod Digits
 pub mod Cases
+pub mod Putting
 pub mod Samples

@@ -1,2 +1,3 @@
-// The frames of `fmap`, one to a line.
+// The frames of `fmap`, one to a line, and the lists that they are put into.
 pub mod line;
+pub mod rows;
