@@ -1,4 +1,5 @@
 pub mod Digits
 pub mod Cases
 pub mod Putting
+pub mod Ending
 pub mod Samples
