@@ -1,0 +1,48 @@
+-- The lists that stand in the first numbers of the lent ones.
+use mathlib.Core.Path.{_≡_}
+use mathlib.Core.List.{List}
+use mathlib.Core.Option.{Option, none, some}
+use Prim.Native.Nat.{ℕ, _≤_}
+use lib.ListN.{length, take}
+use Rattle.rules.specs.Choice.{if}
+use Rattle.obj_image.specs.Lent.{Lent, lent}
+use Rattle.frames.specs.declared.line.Frame.{Frame}
+use Rattle.frames.specs.Struct.{frame-of}
+use Rattle.reading.specs.PutFrame.{Room, put-line}
+use Rattle.reading.specs.declared.state.Reading.{Reading}
+
+abbrev pub lists : Reading → List ℕ → List ℕ → List ℕ → List ℕ → List ℕ → List ℕ → List ℕ → Lent
+lists r s b o f j k e =
+    lent (take (r .sections) s) (take (r .bytes) b) (take (r .outcomes) o) (take (r .functions) f) (take (r .objects) j) (take (r .skips) k)
+    (take (r .entry) e)
+
+-- the lists, if every line was a frame
+unfoldable pub view : Reading → List ℕ → List ℕ → List ℕ → List ℕ → List ℕ → List ℕ → List ℕ → Option Lent
+view r s b o f j k e = if (r .ok) (some (lists r s b o f j k e)) none
+
+abbrev pub room : List ℕ → List ℕ → List ℕ → List ℕ → List ℕ → List ℕ → List ℕ → Room
+room s b o f j k e =
+    record {
+      sections = length s;
+      bytes = length b;
+      outcomes = length o;
+      functions = length f;
+      objects = length j;
+      skips = length k;
+      entry = length e;
+    }
+
+-- a frame put into the symbols, skip ranges and entry point; whatever the other lists are, they stay
+pub record GivenPut (x : Frame) (r q : Reading) (f f′ j j′ k k′ e e′ : List ℕ) : Type 0 where
+  pub size-f : length f′ ≡ length f
+  pub size-j : length j′ ≡ length j
+  pub size-k : length k′ ≡ length k
+  pub size-e : length e′ ≡ length e
+  pub within-f : q .functions ≤ length f′
+  pub within-j : q .objects ≤ length j′
+  pub within-k : q .skips ≤ length k′
+  pub within-e : q .entry ≤ length e′
+  pub sections : q .sections ≡ r .sections
+  pub bytes : q .bytes ≡ r .bytes
+  pub outcomes : q .outcomes ≡ r .outcomes
+  pub same : (s b o : List ℕ) → view q s b o f′ j′ k′ e′ ≡ put-line (room s b o f j k e) (frame-of x) (lists r s b o f j k e)

@@ -1,0 +1,3 @@
+// A frame put into the lent lists that stand for an image.
+pub mod given;
+pub mod state;
