@@ -16,7 +16,7 @@ use Rattle.reading.specs.PutFrame.{onward, put-frame, put-line, in-funct
 use Rattle.reading.specs.View.{lists, view, room, GivenPut}
 use Rattle.reading.specs.declared.state.Reading.{Reading}
 
-onward-if : {A B : Type 0} (h : A → B) (t : Bool) (x : A) → if t (some (h x)) none ≡ onward h (if t (some x) none)
+pub onward-if : {A B : Type 0} (h : A → B) (t : Bool) (x : A) → if t (some (h x)) none ≡ onward h (if t (some x) none)
 unfolding onward if
 onward-if h true x = refl
 onward-if h false x = refl

@@ -8,7 +8,7 @@ use Rattle.rules.specs.Choice.{if}
 use Rattle.obj_image.specs.Lent.{Lent, lent}
 use Rattle.frames.specs.declared.line.Frame.{Frame}
 use Rattle.frames.specs.Struct.{frame-of}
-use Rattle.reading.specs.PutFrame.{Room, put-line}
+use Rattle.reading.specs.PutFrame.{Room, put-word, put-line}
 use Rattle.reading.specs.declared.state.Reading.{Reading}
 
 abbrev pub lists : Reading → List ℕ → List ℕ → List ℕ → List ℕ → List ℕ → List ℕ → List ℕ → Lent
@@ -46,3 +46,30 @@ pub record GivenPut (x : Frame) (r q : Reading) (f f′ j j′ k k′ e e′ : L
   pub bytes : q .bytes ≡ r .bytes
   pub outcomes : q .outcomes ≡ r .outcomes
   pub same : (s b o : List ℕ) → view q s b o f′ j′ k′ e′ ≡ put-line (room s b o f j k e) (frame-of x) (lists r s b o f j k e)
+
+-- a word put into the last section
+pub record WordPut (kind w : ℕ) (r q : Reading) (s s′ b b′ : List ℕ) : Type 0 where
+  pub size-s : length s′ ≡ length s
+  pub size-b : length b′ ≡ length b
+  pub within-b : q .bytes ≤ length b′
+  pub sections : q .sections ≡ r .sections
+  pub outcomes : q .outcomes ≡ r .outcomes
+  pub functions : q .functions ≡ r .functions
+  pub objects : q .objects ≡ r .objects
+  pub skips : q .skips ≡ r .skips
+  pub entry : q .entry ≡ r .entry
+  pub same : (o f j k e : List ℕ) → view q s′ b′ o f j k e ≡ put-word (room s b o f j k e) kind w (lists r s b o f j k e)
+
+-- a frame put into the sections, the bytes and the outcomes; whatever the other lists are, they stay
+pub record ImagePut (x : Frame) (r q : Reading) (s s′ b b′ o o′ : List ℕ) : Type 0 where
+  pub size-s : length s′ ≡ length s
+  pub size-b : length b′ ≡ length b
+  pub size-o : length o′ ≡ length o
+  pub within-s : q .sections ≤ length s′
+  pub within-b : q .bytes ≤ length b′
+  pub within-o : q .outcomes ≤ length o′
+  pub functions : q .functions ≡ r .functions
+  pub objects : q .objects ≡ r .objects
+  pub skips : q .skips ≡ r .skips
+  pub entry : q .entry ≡ r .entry
+  pub same : (f j k e : List ℕ) → view q s′ b′ o′ f j k e ≡ put-line (room s b o f j k e) (frame-of x) (lists r s b o f j k e)

@@ -1,3 +1,4 @@
 // A frame put into the lent lists that stand for an image.
 pub mod given;
+pub mod image;
 pub mod state;
