@@ -16,10 +16,10 @@ use Rattle.frames.specs.declared.line.Frame.{Frame}
 use Rattle.frames.specs.declared.rows.Count.{Count}
 use Rattle.frames.specs.Rows.{add-row, counted, Added}
 use Rattle.frames.specs.Struct.{of-kind, frame-of}
-use Rattle.frames.specs.LastRows.{last-kind, add-word, both, WordAdded}
+use Rattle.frames.specs.LastRows.{last-kind, add-word, both, WordAdded, set-target, set-table, add-branch, told, Told}
 use Rattle.frames.proofs.Ending.{no-section}
-use Rattle.reading.specs.PutFrame.{onward, put-word, put-outcome, put-frame, put-line, in-both, in-outcomes}
-use Rattle.reading.specs.View.{lists, view, room, WordPut, ImagePut}
+use Rattle.reading.specs.PutFrame.{onward, put-word, put-outcome, put-frame, put-line, in-both, in-outcomes, in-sections}
+use Rattle.reading.specs.View.{lists, view, room, WordPut, ImagePut, ToldPut}
 use Rattle.reading.specs.declared.state.Reading.{Reading}
 use Rattle.reading.proofs.Giving.{onward-if}
 
@@ -153,3 +153,108 @@ module _ (x : Frame) (r : Reading) (s b o : List ℕ) (ws : r .sections ≤ leng
               ∙ out
               ∙ ap (put-outcome M (x .second) (x .third)) (sym (the-word f j k z)));
         }
+
+-- ---- what the last code word does
+
+module _ (x : Frame) (r : Reading) (o o′ : List ℕ) (t : Bool) where
+  pub told-target : x .kind ≡ 3 → Told (r .outcomes) o o′ t (set-target (x .first) (take (r .outcomes) o)) → ToldPut x r record { ok = t; sections = r .sections; bytes = r .bytes; outcomes = r .outcomes; functions = r .functions; objects = r .objects; skips = r .skips; entry = r .entry } o o′
+  unfolding view told put-line put-frame of-kind if
+  told-target h a =
+      record {
+        size-o = a .size;
+        sections = refl;
+        bytes = refl;
+        outcomes = refl;
+        functions = refl;
+        objects = refl;
+        skips = refl;
+        entry = refl;
+        same =
+            λ s b f j k e. rw h (onward-if (in-outcomes (lists r s b o f j k e)) t (take (r .outcomes) o′) ∙ ap (onward (in-outcomes (lists r s b o f j k e))) (a .same));
+      }
+
+  pub told-table : x .kind ≡ 4 → Told (r .outcomes) o o′ t (set-table (x .first) (x .second) (take (r .outcomes) o)) → ToldPut x r record { ok = t; sections = r .sections; bytes = r .bytes; outcomes = r .outcomes; functions = r .functions; objects = r .objects; skips = r .skips; entry = r .entry } o o′
+  unfolding view told put-line put-frame of-kind if
+  told-table h a =
+      record {
+        size-o = a .size;
+        sections = refl;
+        bytes = refl;
+        outcomes = refl;
+        functions = refl;
+        objects = refl;
+        skips = refl;
+        entry = refl;
+        same =
+            λ s b f j k e. rw h (onward-if (in-outcomes (lists r s b o f j k e)) t (take (r .outcomes) o′) ∙ ap (onward (in-outcomes (lists r s b o f j k e))) (a .same));
+      }
+
+  pub told-branch : x .kind ≡ 5 → Told (r .outcomes) o o′ t (add-branch (x .first) (x .second) (x .third) (take (r .outcomes) o)) → ToldPut x r record { ok = t; sections = r .sections; bytes = r .bytes; outcomes = r .outcomes; functions = r .functions; objects = r .objects; skips = r .skips; entry = r .entry } o o′
+  unfolding view told put-line put-frame of-kind if
+  told-branch h a =
+      record {
+        size-o = a .size;
+        sections = refl;
+        bytes = refl;
+        outcomes = refl;
+        functions = refl;
+        objects = refl;
+        skips = refl;
+        entry = refl;
+        same =
+            λ s b f j k e. rw h (onward-if (in-outcomes (lists r s b o f j k e)) t (take (r .outcomes) o′) ∙ ap (onward (in-outcomes (lists r s b o f j k e))) (a .same));
+      }
+
+-- ---- all of these
+
+module _ (x : Frame) (r : Reading) (s b o : List ℕ) (ws : r .sections ≤ length s) (wb : r .bytes ≤ length b) (wo : r .outcomes ≤ length o) where
+  pub image-section : x .kind ≡ 1 → (c : Count) (s′ : List ℕ) → Added 32 (r .sections) (x .first ∷ x .second ∷ x .third ∷ 0 ∷ []) s s′ c → ImagePut x r record { ok = c .ok; sections = c .count; bytes = r .bytes; outcomes = r .outcomes; functions = r .functions; objects = r .objects; skips = r .skips; entry = r .entry } s s′ b b o o
+  unfolding view counted put-line put-frame of-kind if
+  image-section h c s′ a =
+      record {
+        size-s = a .size;
+        size-b = refl;
+        size-o = refl;
+        within-s = a .within;
+        within-b = wb;
+        within-o = wo;
+        functions = refl;
+        objects = refl;
+        skips = refl;
+        entry = refl;
+        same =
+            λ f j k e. rw h (onward-if (in-sections (lists r s b o f j k e)) (c .ok) (take (c .count) s′) ∙ ap (onward (in-sections (lists r s b o f j k e))) (a .same));
+      }
+
+  pub image-word : x .kind ≡ 2 → (q : Reading) (s′ b′ : List ℕ) → WordPut 2 (x .first) r q s s′ b b′ → ImagePut x r q s s′ b b′ o o
+  unfolding put-line put-frame of-kind if
+  image-word h q s′ b′ a =
+      record {
+        size-s = a .size-s;
+        size-b = a .size-b;
+        size-o = refl;
+        within-s = omega (arith, a .sections, a .size-s);
+        within-b = a .within-b;
+        within-o = omega (arith, a .outcomes);
+        functions = a .functions;
+        objects = a .objects;
+        skips = a .skips;
+        entry = a .entry;
+        same = λ f j k e. rw h (a .same o f j k e);
+      }
+
+  pub image-told : (q : Reading) (o′ : List ℕ) → ToldPut x r q o o′ → ImagePut x r q s s b b o o′
+  image-told q o′ a =
+      record {
+        size-s = refl;
+        size-b = refl;
+        size-o = a .size-o;
+        within-s = omega (arith, a .sections);
+        within-b = omega (arith, a .bytes);
+        within-o = omega (arith, a .outcomes, a .size-o);
+        functions = a .functions;
+        objects = a .objects;
+        skips = a .skips;
+        entry = a .entry;
+        same = λ f j k e. a .same s b f j k e;
+      }

@@ -1,2 +1,3 @@
 pub mod Giving
 pub mod Imaging
+pub mod Framing

@@ -73,3 +73,37 @@ pub record ImagePut (x : Frame) (r q : Reading) (s s′ b b′ o o′ : List ℕ
   pub skips : q .skips ≡ r .skips
   pub entry : q .entry ≡ r .entry
   pub same : (f j k e : List ℕ) → view q s′ b′ o′ f j k e ≡ put-line (room s b o f j k e) (frame-of x) (lists r s b o f j k e)
+
+-- a frame put into the outcomes; whatever the other lists are, they stay
+pub record ToldPut (x : Frame) (r q : Reading) (o o′ : List ℕ) : Type 0 where
+  pub size-o : length o′ ≡ length o
+  pub sections : q .sections ≡ r .sections
+  pub bytes : q .bytes ≡ r .bytes
+  pub outcomes : q .outcomes ≡ r .outcomes
+  pub functions : q .functions ≡ r .functions
+  pub objects : q .objects ≡ r .objects
+  pub skips : q .skips ≡ r .skips
+  pub entry : q .entry ≡ r .entry
+  pub same : (s b f j k e : List ℕ) → view q s b o′ f j k e ≡ put-line (room s b o f j k e) (frame-of x) (lists r s b o f j k e)
+
+-- the counts are within the lent lists
+pub record Fit (r : Reading) (s b o f j k e : List ℕ) : Type 0 where
+  pub within-s : r .sections ≤ length s
+  pub within-b : r .bytes ≤ length b
+  pub within-o : r .outcomes ≤ length o
+  pub within-f : r .functions ≤ length f
+  pub within-j : r .objects ≤ length j
+  pub within-k : r .skips ≤ length k
+  pub within-e : r .entry ≤ length e
+
+-- a frame put into the lists: what was to be read before is read on, if there was anything
+pub record FramePut (x : Frame) (r q : Reading) (s s′ b b′ o o′ f f′ j j′ k k′ e e′ : List ℕ) : Type 0 where
+  pub size-s : length s′ ≡ length s
+  pub size-b : length b′ ≡ length b
+  pub size-o : length o′ ≡ length o
+  pub size-f : length f′ ≡ length f
+  pub size-j : length j′ ≡ length j
+  pub size-k : length k′ ≡ length k
+  pub size-e : length e′ ≡ length e
+  pub fit : Fit q s′ b′ o′ f′ j′ k′ e′
+  pub same : view q s′ b′ o′ f′ j′ k′ e′ ≡ if (r .ok) (put-line (room s b o f j k e) (frame-of x) (lists r s b o f j k e)) none
