@@ -2,4 +2,5 @@ pub mod Digits
 pub mod Cases
 pub mod Putting
 pub mod Ending
+pub mod Ranges
 pub mod Samples
