@@ -1,4 +1,4 @@
--- Lines of each kind, and lines that are none, with the answers that another program gave: computed.
+-- Lines of each kind, and lines that are none: computed.
 use mathlib.Core.Path.{_≡_, refl}
 use mathlib.Core.List.{List, [], _∷_, _++_, map}
 use mathlib.Core.Option.{Option, none, some}
