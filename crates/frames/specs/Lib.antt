@@ -1,0 +1,4 @@
+pub mod Frames
+pub mod Struct
+pub mod Rows
+pub mod LastRows

@@ -1,0 +1,72 @@
+// What the last code word does: its target, its table, its branches.
+ghost use mathlib.Core.Path.{_≡_};
+ghost use Prim.Native.Nat.{_+_, _≤_};
+ghost use lib.ListN.{length, take};
+ghost use Rattle.frames.specs.LastRows.{Told, Now, last-is, set-target, set-table, with-branch, add-branch};
+ghost use Rattle.frames.specs.LastRows as ends;
+use crate::words::back;
+use crate::words::set_back;
+use crate::words::set_pair;
+
+// Whether there is a last code word, and its outcome is of this kind.
+fn last_is(outcomes: &[u32], n: usize, kind: u32) -> bool
+    requires { ⌜ n ≤ length (now outcomes) ⌝ }
+    ensures { λ r. ⌜ r ≡ last-is kind (take n (now (outcomes .entry))) ⌝ }
+{
+    if n < 6 {
+        return false;
+    }
+    back(outcomes, n, 6) == kind
+}
+
+// Where the last code word jumps to; false where it is no jump.
+pub fn set_target(outcomes: &mut [u32], n: usize, a: u32) -> bool
+    requires { ⌜ n ≤ length (now outcomes) ⌝ }
+    ensures { λ r. ⌜ Told n (now (outcomes .entry)) (now (outcomes .exit)) r (set-target a (take n (now (outcomes .entry)))) ⌝ }
+{
+    if last_is(outcomes, n, 4) {
+        set_back(outcomes, n, 4, a);
+        return true;
+    }
+    false
+}
+
+// The last code word's jump table; false where it has none.
+pub fn set_table(outcomes: &mut [u32], n: usize, a: u32, size: u32) -> bool
+    requires { ⌜ n ≤ length (now outcomes) ⌝ }
+    ensures { λ r. ⌜ Told n (now (outcomes .entry)) (now (outcomes .exit)) r (set-table a size (take n (now (outcomes .entry)))) ⌝ }
+{
+    if last_is(outcomes, n, 5) {
+        set_pair(outcomes, n, 4, 3, a, size);
+        return true;
+    }
+    false
+}
+
+// One branch more of a row; with a third the row breaks its rule.
+fn with_branch(outcomes: &mut [u32], n: usize, way: u32, a: u32)
+    requires { ⌜ (6 ≤ n) × (n ≤ length (now outcomes)) ⌝ }
+    ensures { λ _. ⌜ Now n (now (outcomes .entry)) (now (outcomes .exit)) (with-branch way a (take n (now (outcomes .entry)))) ⌝ }
+{
+    if back(outcomes, n, 4) == 0 {
+        set_pair(outcomes, n, 4, 3, way, a);
+        return;
+    }
+    if back(outcomes, n, 2) == 0 {
+        set_pair(outcomes, n, 2, 1, way, a);
+        return;
+    }
+    set_back(outcomes, n, 2, 4);
+}
+
+// The next branch of the last code word; false where it has no branches.
+pub fn add_branch(outcomes: &mut [u32], n: usize, link: u32, to: u32, a: u32) -> bool
+    requires { ⌜ (n ≤ length (now outcomes)) × (link ≤ 1) × (to ≤ 2) ⌝ }
+    ensures { λ r. ⌜ Told n (now (outcomes .entry)) (now (outcomes .exit)) r (add-branch link to a (take n (now (outcomes .entry)))) ⌝ }
+{
+    if last_is(outcomes, n, 6) {
+        with_branch(outcomes, n, link * 4 + to + 1, a);
+        return true;
+    }
+    false
+}

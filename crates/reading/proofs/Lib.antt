@@ -1,0 +1,4 @@
+pub mod Giving
+pub mod Imaging
+pub mod Framing
+pub mod Samples

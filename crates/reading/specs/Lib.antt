@@ -1,0 +1,2 @@
+pub mod PutFrame
+pub mod View

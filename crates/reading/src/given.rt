@@ -1,0 +1,47 @@
+// Frames that name symbols, skip ranges and the entry point.
+ghost use mathlib.Core.Path.{_≡_};
+ghost use mathlib.Core.Bool.{true};
+ghost use Prim.Native.Nat.{_≤_};
+ghost use lib.ListN.{length};
+ghost use Rattle.reading.specs.View.{GivenPut};
+use crate::state::Reading;
+use frames::line::Frame;
+
+// A function symbol, an object symbol, a skip range or the entry point. A list that already breaks its rule stays as it is: it has
+// more than 1,024 symbols, 64 skip ranges or one entry point.
+pub fn put_given(
+    r: Reading,
+    functions: &mut [u32],
+    objects: &mut [u32],
+    skips: &mut [u32],
+    entry: &mut [u32],
+    f: Frame,
+) -> Reading
+    requires going { ⌜ (r .ok ≡ true) × (6 ≤ f .kind) × (f .kind ≤ 9) ⌝ }
+    requires fit { ⌜ (r .functions ≤ length (now functions)) × (r .objects ≤ length (now objects)) × (r .skips ≤ length (now skips)) × (r .entry ≤ length (now entry)) ⌝ }
+    ensures { λ q. ⌜ GivenPut f r q (now (functions .entry)) (now (functions .exit)) (now (objects .entry)) (now (objects .exit)) (now (skips .entry)) (now (skips .exit)) (now (entry .entry)) (now (entry .exit)) ⌝ }
+{
+    let mut q = r;
+    if f.kind == 6 {
+        let c = frames::rows::add_three(functions, r.functions, 3072, f.first, f.second, f.third);
+        q.ok = c.ok;
+        q.functions = c.count;
+        return q;
+    }
+    if f.kind == 7 {
+        let c = frames::rows::add_three(objects, r.objects, 3072, f.first, f.second, f.third);
+        q.ok = c.ok;
+        q.objects = c.count;
+        return q;
+    }
+    if f.kind == 8 {
+        let c = frames::rows::add_two(skips, r.skips, 128, f.first, f.second);
+        q.ok = c.ok;
+        q.skips = c.count;
+        return q;
+    }
+    let c = frames::rows::add_one(entry, r.entry, 1, f.first);
+    q.ok = c.ok;
+    q.entry = c.count;
+    q
+}
