@@ -9,7 +9,6 @@ use Rattle.rules.specs.Choice.{Answer, ok, fault, _>>=_}
 use Rattle.rules.specs.Loop.{number}
 use Rattle.rules.specs.Known.{Entry}
 use Rattle.rules.proofs.Faults.{Met}
-use Rattle.obj.specs.Lent.{Lent}
 use Rattle.entries.specs.Table.{Holds, Good, Told}
 use Rattle.cfa_entries.specs.Adding.{Entered}
 
@@ -37,9 +36,9 @@ drop-taken (suc m) (x ∷ l) = drop-taken m l
 
 -- ---- a loop
 
-module _ (P : Lent → Type 0) (whole : Lent → List ℕ → List Entry → Answer (List Entry)) (keys : List ℕ) (n₀ : ℕ) (known₀ infos₀ lists₀ : List ℕ) where
+module _ (X : Type 0) (P : X → Type 0) (whole : X → List ℕ → List Entry → Answer (List Entry)) (keys : List ℕ) (n₀ : ℕ) (known₀ infos₀ lists₀ : List ℕ) where
   -- the entries that the slices hold now, from which the keys that are left come to the same
-  pub record Now (l : Lent) (all left : List ℕ) (es₀ : List Entry) (n : ℕ) (known infos lists : List ℕ) : Type 0 where
+  pub record Now (l : X) (all left : List ℕ) (es₀ : List Entry) (n : ℕ) (known infos lists : List ℕ) : Type 0 where
     pub entries : List Entry
     pub holds : Holds n known infos lists entries
     pub same : whole l left entries ≡ whole l all es₀
@@ -49,15 +48,15 @@ module _ (P : Lent → Type 0) (whole : Lent → List ℕ → List Entry → Ans
     pub fine : f ≡ 0
     pub size : length lists ≡ length lists₀
     pub good : Good n known infos lists
-    pub now : (l : Lent) (es₀ : List Entry) → P l → Holds n₀ known₀ infos₀ lists₀ es₀ → Now l (take m keys) (drop i (take m keys)) es₀ n known infos lists
+    pub now : (l : X) (es₀ : List Entry) → P l → Holds n₀ known₀ infos₀ lists₀ es₀ → Now l (take m keys) (drop i (take m keys)) es₀ n known infos lists
 
   pub each-first : (m : ℕ) → Good n₀ known₀ infos₀ lists₀ → Each m 0 n₀ known₀ infos₀ lists₀ 0
   each-first m g = record { some = omega arith; fine = refl; size = refl; good = g; now = λ l es₀ q h. record { entries = es₀; holds = h; same = refl } }
 
-  module _ (step : Lent → ℕ → List Entry → Answer (List Entry)) (nil : (l : Lent) (es : List Entry) → whole l [] es ≡ ok es)
-      (cons : (l : Lent) (k : ℕ) (ks : List ℕ) (es : List Entry) → whole l (k ∷ ks) es ≡ (step l k es >>= whole l ks)) (met : (l : Lent) (k : ℕ) (es : List Entry) → Met (step l k es)) where
+  module _ (step : X → ℕ → List Entry → Answer (List Entry)) (nil : (l : X) (es : List Entry) → whole l [] es ≡ ok es)
+      (cons : (l : X) (k : ℕ) (ks : List ℕ) (es : List Entry) → whole l (k ∷ ks) es ≡ (step l k es >>= whole l ks)) (met : (l : X) (k : ℕ) (es : List Entry) → Met (step l k es)) where
     module _ (m i n : ℕ) (known infos lists : List ℕ) (f : ℕ) (a : Each m i n known infos lists f) where
-      pub each-ends : m ≤ i → (l : Lent) (es₀ : List Entry) → P l → Holds n₀ known₀ infos₀ lists₀ es₀ → Entered (whole l (take m keys) es₀) n known infos lists f
+      pub each-ends : m ≤ i → (l : X) (es₀ : List Entry) → P l → Holds n₀ known₀ infos₀ lists₀ es₀ → Entered (whole l (take m keys) es₀) n known infos lists f
       each-ends h l es₀ q g =
           let w : Now l (take m keys) (drop i (take m keys)) es₀ n known infos lists = a .now l es₀ q g in
           let e : i ≡ m = omega (arith, a .some) in
@@ -66,15 +65,15 @@ module _ (P : Lent → Type 0) (whole : Lent → List ℕ → List Entry → Ans
           rw s (record { told = (w .holds, a .fine) })
 
       module _ (less : i < m) (long : m ≤ length keys) (n′ : ℕ) (known′ infos′ lists′ : List ℕ) (f′ : ℕ)
-          (made : (l : Lent) (es : List Entry) → P l → Holds n known infos lists es → Entered (step l (getD keys i 0) es) n′ known′ infos′ lists′ f′) where
+          (made : (l : X) (es : List Entry) → P l → Holds n known infos lists es → Entered (step l (getD keys i 0) es) n′ known′ infos′ lists′ f′) where
         -- what is left begins with this key
-        first : (l : Lent) (es₀ : List Entry) (w : Now l (take m keys) (drop i (take m keys)) es₀ n known infos lists) →
+        first : (l : X) (es₀ : List Entry) (w : Now l (take m keys) (drop i (take m keys)) es₀ n known infos lists) →
             whole l (take m keys) es₀ ≡ (step l (getD keys i 0) (w .entries) >>= whole l (drop (suc i) (take m keys)))
         first l es₀ w =
             let d : drop i (take m keys) ≡ getD keys i 0 ∷ drop (suc i) (take m keys) = drop-cons (take m keys) i 0 (omega (arith, length-take-le m keys long)) ∙ ap (λ (y : ℕ). y ∷ drop (suc i) (take m keys)) (getD-take m keys i 0 less) in
             sym (w .same) ∙ ap (λ (ks : List ℕ). whole l ks (w .entries)) d ∙ cons l (getD keys i 0) (drop (suc i) (take m keys)) (w .entries)
 
-        pub each-stops : (f′ ≡ 0 → ⊥) → (l : Lent) (es₀ : List Entry) → P l → Holds n₀ known₀ infos₀ lists₀ es₀ → Entered (whole l (take m keys) es₀) n′ known′ infos′ lists′ f′
+        pub each-stops : (f′ ≡ 0 → ⊥) → (l : X) (es₀ : List Entry) → P l → Holds n₀ known₀ infos₀ lists₀ es₀ → Entered (whole l (take m keys) es₀) n′ known′ infos′ lists′ f′
         unfolding _>>=_
         each-stops z l es₀ q g =
             let w : Now l (take m keys) (drop i (take m keys)) es₀ n known infos lists = a .now l es₀ q g in
@@ -82,10 +81,10 @@ module _ (P : Lent → Type 0) (whole : Lent → List ℕ → List Entry → Ans
             let s : whole l (take m keys) es₀ ≡ fault f′ = first l es₀ w ∙ ap (λ (x : Answer (List Entry)). x >>= whole l (drop (suc i) (take m keys))) e in
             rw s (record { told = refl })
 
-        went : (l : Lent) (es : List Entry) → P l → f′ ≡ 0 → Holds n known infos lists es → Gone (step l (getD keys i 0) es) n′ known′ infos′ lists′
+        went : (l : X) (es : List Entry) → P l → f′ ≡ 0 → Holds n known infos lists es → Gone (step l (getD keys i 0) es) n′ known′ infos′ lists′
         went l es q z h = gone n′ known′ infos′ lists′ f′ _ (met l (getD keys i 0) es) (made l es q h .told) z
 
-        next-now : f′ ≡ 0 → (l : Lent) (es₀ : List Entry) → P l → Holds n₀ known₀ infos₀ lists₀ es₀ → Now l (take m keys) (drop (i + 1) (take m keys)) es₀ n′ known′ infos′ lists′
+        next-now : f′ ≡ 0 → (l : X) (es₀ : List Entry) → P l → Holds n₀ known₀ infos₀ lists₀ es₀ → Now l (take m keys) (drop (i + 1) (take m keys)) es₀ n′ known′ infos′ lists′
         unfolding _>>=_
         next-now z l es₀ q g =
             let w : Now l (take m keys) (drop i (take m keys)) es₀ n known infos lists = a .now l es₀ q g in
@@ -94,7 +93,7 @@ module _ (P : Lent → Type 0) (whole : Lent → List ℕ → List Entry → Ans
             let s : whole l (take m keys) es₀ ≡ whole l (drop (suc i) (take m keys)) (t .entries) = first l es₀ w ∙ ap (λ (x : Answer (List Entry)). x >>= whole l (drop (suc i) (take m keys))) (t .is) in
             record { entries = t .entries; holds = t .holds; same = ap (λ (j : ℕ). whole l (drop j (take m keys)) (t .entries)) e ∙ sym s }
 
-        pub each-on : (l : Lent) → P l → f′ ≡ 0 → length lists′ ≡ length lists → Each m (i + 1) n′ known′ infos′ lists′ f′
+        pub each-on : (l : X) → P l → f′ ≡ 0 → length lists′ ≡ length lists → Each m (i + 1) n′ known′ infos′ lists′ f′
         each-on l q z e =
             let t : Gone (step l (getD keys i 0) (a .good .entries)) n′ known′ infos′ lists′ = went l (a .good .entries) q z (a .good .holds) in
             record { some = omega arith; fine = z; size = e ∙ a .size; good = record { entries = t .entries; holds = t .holds }; now = next-now z }

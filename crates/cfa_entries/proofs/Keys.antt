@@ -76,22 +76,22 @@ module _ (sk : List ℕ) (c : Code) (room : ℕ) (lists keys : List ℕ) (n₀ :
   one-of l k es = rules.try-add-function (image l) (capacity room lists) k es
 
   pub record Adding (m i n : ℕ) (known infos : List ℕ) (f : ℕ) : Type 0 where
-    pub each : Each is-image all-of keys n₀ known₀ infos₀ lists m i n known infos lists f
+    pub each : Each Lent is-image all-of keys n₀ known₀ infos₀ lists m i n known infos lists f
 
   pub adding-first : (m : ℕ) → Good n₀ known₀ infos₀ lists → Adding m 0 n₀ known₀ infos₀ 0
-  adding-first m g = record { each = each-first is-image all-of keys n₀ known₀ infos₀ lists m g }
+  adding-first m g = record { each = each-first Lent is-image all-of keys n₀ known₀ infos₀ lists m g }
 
   met : (l : Lent) (k : ℕ) (es : List Entry) → Met (rules.try-add-function (image l) (capacity room lists) k es)
   met l k es = try-met (image l) (capacity room lists) k es
 
   module _ (m i n : ℕ) (known infos : List ℕ) (f : ℕ) (a : Adding m i n known infos f) where
     pub adding-ends : m ≤ i → (l : Lent) (es₀ : List Entry) → Looks l sk c → Holds n₀ known₀ infos₀ lists es₀ → Entered (rules.try-add-functions (image l) (capacity room lists) (take m keys) es₀) n known infos lists f
-    adding-ends h = each-ends is-image all-of keys n₀ known₀ infos₀ lists one-of (λ l es. refl) (λ l k ks es. refl) met m i n known infos lists f (a .each) h
+    adding-ends h = each-ends Lent is-image all-of keys n₀ known₀ infos₀ lists one-of (λ l es. refl) (λ l k ks es. refl) met m i n known infos lists f (a .each) h
 
     module _ (less : i < m) (long : m ≤ length keys) (n′ : ℕ) (known′ infos′ : List ℕ) (f′ : ℕ)
         (step : (l : Lent) (es : List Entry) → Looks l sk c → Holds n known infos lists es → Entered (rules.try-add-function (image l) (capacity room lists) (getD keys i 0) es) n′ known′ infos′ lists f′) where
       pub adding-stops : (f′ ≡ 0 → ⊥) → (l : Lent) (es₀ : List Entry) → Looks l sk c → Holds n₀ known₀ infos₀ lists es₀ → Entered (rules.try-add-functions (image l) (capacity room lists) (take m keys) es₀) n′ known′ infos′ lists f′
-      adding-stops z = each-stops is-image all-of keys n₀ known₀ infos₀ lists one-of (λ l es. refl) (λ l k ks es. refl) met m i n known infos lists f (a .each) less long n′ known′ infos′ lists f′ step z
+      adding-stops z = each-stops Lent is-image all-of keys n₀ known₀ infos₀ lists one-of (λ l es. refl) (λ l k ks es. refl) met m i n known infos lists f (a .each) less long n′ known′ infos′ lists f′ step z
 
       pub adding-on : Looking sk c → f′ ≡ 0 → Adding m (i + 1) n′ known′ infos′ f′
-      adding-on k z = record { each = each-on is-image all-of keys n₀ known₀ infos₀ lists one-of (λ l es. refl) (λ l k ks es. refl) met m i n known infos lists f (a .each) less long n′ known′ infos′ lists f′ step (k .lent) (k .looks) z refl }
+      adding-on k z = record { each = each-on Lent is-image all-of keys n₀ known₀ infos₀ lists one-of (λ l es. refl) (λ l k ks es. refl) met m i n known infos lists f (a .each) less long n′ known′ infos′ lists f′ step (k .lent) (k .looks) z refl }

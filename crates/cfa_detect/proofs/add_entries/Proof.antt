@@ -22,13 +22,13 @@ shared-slice-read-add-entry : tie.Need-shared-slice-read-add-entry Inv-loop μ-l
 shared-slice-read-add-entry c = search needs
 
 add-entry-requires : tie.Need-add-entry-requires Inv-loop μ-loop
-add-entry-requires c κs = c .before .before .before .before .loop .inv .good
+add-entry-requires c κs = c .before .before .before .before .loop .inv .each .good
 
 same-length : tie.Need-same-length Inv-loop μ-loop
-same-length c = c .before .before .before .before .before .known .given ∙ c .before .before .before .before .before .before .before .before .before .before .before .loop .inv .good .holds .kept .size ∙ sym (c .before .before .before .before .before .before .before .before .before .before .before .before .before .before .before .before .pre .0 .holds .kept .size)
+same-length c = c .before .before .before .before .before .known .given ∙ c .before .before .before .before .before .before .before .before .before .before .before .loop .inv .each .good .holds .kept .size ∙ sym (c .before .before .before .before .before .before .before .before .before .before .before .before .before .before .before .before .pre .0 .holds .kept .size)
 
 same-length-2 : tie.Need-same-length-2 Inv-loop μ-loop
-same-length-2 c = c .before .before .before .infos .given ∙ c .before .before .before .before .before .before .before .before .before .before .before .loop .inv .good .holds .lent ∙ sym (c .before .before .before .before .before .before .before .before .before .before .before .before .before .before .before .before .pre .0 .holds .lent)
+same-length-2 c = c .before .before .before .infos .given ∙ c .before .before .before .before .before .before .before .before .before .before .before .loop .inv .each .good .holds .lent ∙ sym (c .before .before .before .before .before .before .before .before .before .before .before .before .before .before .before .before .pre .0 .holds .lent)
 
 returns : tie.Need-returns Inv-loop μ-loop
 returns c = adding-stops _ _ _ _ _ _ _ _ _ _ _ _ (c .before .before .before .before .before .before .before .before .before .before .before .loop .inv) (c .before .before .before .before .before .before .before .before .before .before .loop-test .taken) (c .before .before .before .before .before .before .before .before .before .before .before .before .before .before .before .before .pre .1) _ _ _ _ (λ es h. c .before .before .before .before .before .before .add-entry .ensures es h .told) (c .if1 .taken)
@@ -43,10 +43,10 @@ loop-again : tie.Need-loop-again Inv-loop μ-loop
 loop-again c = adding-on _ _ _ _ _ _ _ _ _ _ _ _ (c .before .before .before .before .before .before .before .before .before .before .before .loop .inv) (c .before .before .before .before .before .before .before .before .before .before .loop-test .taken) (c .before .before .before .before .before .before .before .before .before .before .before .before .before .before .before .before .pre .1) _ _ _ _ (λ es h. c .before .before .before .before .before .before .add-entry .ensures es h .told) (c .if1 .left)
 
 same-length-3 : tie.Need-same-length-3 Inv-loop μ-loop
-same-length-3 c = c .before .loop .inv .good .holds .kept .size ∙ sym (c .before .before .before .before .before .before .pre .0 .holds .kept .size)
+same-length-3 c = c .before .loop .inv .each .good .holds .kept .size ∙ sym (c .before .before .before .before .before .before .pre .0 .holds .kept .size)
 
 same-length-4 : tie.Need-same-length-4 Inv-loop μ-loop
-same-length-4 c = c .before .loop .inv .good .holds .lent ∙ sym (c .before .before .before .before .before .before .pre .0 .holds .lent)
+same-length-4 c = c .before .loop .inv .each .good .holds .lent ∙ sym (c .before .before .before .before .before .before .pre .0 .holds .lent)
 
 returns-2 : tie.Need-returns-2 Inv-loop μ-loop
 returns-2 c = adding-ends _ _ _ _ _ _ _ _ _ _ _ _ (c .before .loop .inv) (c .loop-test .left)
