@@ -42,7 +42,7 @@ lists-read a none z y r = if-false (half-row a none z) (some (slices-from (small
 lists-read a (some s) z y r =
     if-true (half-row a (some s) z) (some (slices-from (small-from (row-of a (some s) ++ z)) (numbers s ++ y))) none ∙ ap some (slices-read a s z y r)
 
-entry-read : (x : Entry) (z y : List ℕ) → RightIn (x .slices) → entry-from (as-block x) (info-row x ++ z) (entry-numbers x ++ y) ≡ x
+pub entry-read : (x : Entry) (z y : List ℕ) → RightIn (x .slices) → entry-from (as-block x) (info-row x ++ z) (entry-numbers x ++ y) ≡ x
 entry-read x z y r =
     ap₂ (λ (a : Bool) (o : Option Slices). record { entry = x .entry; analyzed = a; end = x .end; slices = o }) (odd-row (x .analyzed) (x .slices) z) (lists-read (x .analyzed) (x .slices) z y r)
 
