@@ -246,27 +246,27 @@ module _ (e : Around) where
 -- ---- the map
 
 module _ (im : Image) (cap : Capacity) where
-  finalize-met : (es : List Entry) (s : Slices) → Met (Finalize.finalize im es s)
+  pub finalize-met : (es : List Entry) (s : Slices) → Met (Finalize.finalize im es s)
   unfolding Finalize.finalize Finalize.finalize-closed Finalize.finalize-end Finalize.add-last
   finalize-met es s =
       if-fails (λ _. number (lit≤ tt, lit≤ tt))
       (λ _. if-fails (λ _. number (lit≤ tt, lit≤ tt))
       (λ _. if-fails (λ _. number (lit≤ tt, lit≤ tt)) (λ _. bind-fails (if-fails (λ _. set-block-met _ _ _) (λ _. result)) (λ _. result))))
 
-  add-entry-met : (k : ℕ) (es : List Entry) → Met (Map.add-entry cap k es)
+  pub add-entry-met : (k : ℕ) (es : List Entry) → Met (Map.add-entry cap k es)
   unfolding Map.add-entry
   add-entry-met k es = if-fails (λ _. result) (λ _. limited-met _ _)
 
-  store-met : (k : ℕ) (s : Slices) (end : ℕ) (es : List Entry) → Met (Map.store cap k s end es)
+  pub store-met : (k : ℕ) (s : Slices) (end : ℕ) (es : List Entry) → Met (Map.store cap k s end es)
   unfolding Map.store Map.fitting
   store-met k s end es = bind-fails (add-entry-met k es) (λ _. if-fails (λ _. result) (λ _. four))
 
-  try-add-functions-met : (ks : List ℕ) (es : List Entry) → Met (Map.try-add-functions im cap ks es)
+  pub try-add-functions-met : (ks : List ℕ) (es : List Entry) → Met (Map.try-add-functions im cap ks es)
   unfolding Map.try-add-function
   try-add-functions-met [] es = result
   try-add-functions-met (k ∷ ks) es = bind-fails (if-fails (λ _. add-entry-met k es) (λ _. result)) (λ fs. try-add-functions-met ks fs)
 
-  process-function-at-met : (k : ℕ) (es : List Entry) → Met (Map.process-function-at im cap k es)
+  pub process-function-at-met : (k : ℕ) (es : List Entry) → Met (Map.process-function-at im cap k es)
   unfolding Map.process-function-at Map.store-function Map.store-final Map.set-aside
   process-function-at-met k es =
       bind-fails (analyze-met _ k _)
@@ -274,11 +274,11 @@ module _ (im : Image) (cap : Capacity) where
       (λ _. bind-fails (try-add-functions-met (r .slices .references) es) (λ fs. if-fails (λ _. bind-fails (finalize-met fs _) (λ t. store-met k t _ fs)) (λ _. store-met k _ 0 fs)))
       (λ _. bind-fails (add-entry-met k es) (λ _. result)))
 
-  process-each-met : (ks : List ℕ) (es : List Entry) → Met (Map.process-each im cap ks es)
+  pub process-each-met : (ks : List ℕ) (es : List Entry) → Met (Map.process-each im cap ks es)
   process-each-met [] es = result
   process-each-met (k ∷ ks) es = bind-fails (process-function-at-met k es) (λ fs. process-each-met ks fs)
 
-  finalize-entry-met : (final : Bool) (k : ℕ) (o : Option Slices) (r : Round) → Met (Map.finalize-entry im cap final k o r)
+  pub finalize-entry-met : (final : Bool) (k : ℕ) (o : Option Slices) (r : Round) → Met (Map.finalize-entry im cap final k o r)
   unfolding Map.finalize-function Map.keep-settled
   finalize-entry-met final k none r = result
   finalize-entry-met final k (some s) r =
@@ -286,49 +286,64 @@ module _ (im : Image) (cap : Capacity) where
       (λ t. if-fails
       (λ _. bind-fails (finalize-met _ _) (λ u. bind-fails (try-add-functions-met (u .references) (r .entries)) (λ es. bind-fails (store-met k u _ es) (λ _. result)))) (λ _. result))
 
-  finalize-each-met : (final : Bool) (xs : List Entry) (r : Round) → Met (Map.finalize-each im cap final xs r)
+  pub finalize-each-met : (final : Bool) (xs : List Entry) (r : Round) → Met (Map.finalize-each im cap final xs r)
   finalize-each-met final [] r = result
   finalize-each-met final (x ∷ xs) r = bind-fails (finalize-entry-met final (x .entry) (x .slices) r) (λ t. finalize-each-met final xs t)
 
-  new-functions-met : (es : List Entry) → Met (Map.new-functions im cap es)
+  pub new-functions-met : (es : List Entry) → Met (Map.new-functions im cap es)
   unfolding Map.found-behind
   new-functions-met [] = result
   new-functions-met (x ∷ es) =
       bind-fails (if-fails (λ _. result) (λ _. if-fails (λ _. number (lit≤ tt, lit≤ tt)) (λ _. result))) (λ l. bind-fails (new-functions-met es) (λ _. result))
 
-  add-entries-met : (ks : List ℕ) (es : List Entry) → Met (Map.add-entries im cap ks es)
+  pub add-entries-met : (ks : List ℕ) (es : List Entry) → Met (Map.add-entries im cap ks es)
   add-entries-met [] es = result
   add-entries-met (k ∷ ks) es = bind-fails (add-entry-met k es) (λ fs. add-entries-met ks fs)
 
-  process-functions-met : (es : List Entry) → Met (Map.process-functions im cap es)
-  unfolding Map.process-functions Map.process-step Map.process-next Map.finalize-or-detect Map.finalize-functions Map.detect-new-functions
-  process-functions-met es =
-      bind-fails
-      (loop-fails Map.is-changed (Map.process-step im cap) Map.rounds-left
-      (λ r. if-fails
-      (λ _. bind-fails (finalize-each-met false (filter is-unfinalized (r .entries)) (round false (r .entries))) (λ t. if-fails (λ _. result) (λ _. bind-fails (new-functions-met (t .entries)) (λ ks. bind-fails (add-entries-met ks (t .entries)) (λ _. result)))))
-      (λ _. bind-fails (process-function-at-met _ _) (λ _. result))) _)
-      (λ _. result)
+  pub finalize-functions-met : (final : Bool) (es : List Entry) → Met (Map.finalize-functions im cap final es)
+  unfolding Map.finalize-functions
+  finalize-functions-met final es = finalize-each-met final (filter is-unfinalized es) (round false es)
 
-  last-rounds-met : (es : List Entry) → Met (Map.last-rounds im cap es)
-  unfolding Map.last-rounds Map.last-step Map.finalize-functions
-  last-rounds-met es =
-      bind-fails
-      (loop-fails Map.is-changed (Map.last-step im cap) Map.rounds-left
-      (λ r. bind-fails (finalize-each-met true (filter is-unfinalized (r .entries)) (round false (r .entries))) (λ t. if-fails (λ _. bind-fails (process-functions-met (t .entries)) (λ _. result)) (λ _. result))) _)
-      (λ _. result)
+  pub detect-new-functions-met : (es : List Entry) → Met (Map.detect-new-functions im cap es)
+  unfolding Map.detect-new-functions
+  detect-new-functions-met es = bind-fails (new-functions-met es) (λ ks. bind-fails (add-entries-met ks es) (λ _. result))
 
-  add-symbols-met : (fs : List Symbol) (es : List Entry) → Met (Map.add-symbols im cap fs es)
+  pub process-step-met : (r : Round) → Met (Map.process-step im cap r)
+  unfolding Map.process-step Map.process-next Map.finalize-or-detect
+  process-step-met r =
+      if-fails (λ _. bind-fails (finalize-functions-met false (r .entries)) (λ t. if-fails (λ _. result) (λ _. detect-new-functions-met (t .entries))))
+      (λ _. bind-fails (process-function-at-met _ _) (λ _. result))
+
+  pub process-functions-met : (es : List Entry) → Met (Map.process-functions im cap es)
+  unfolding Map.process-functions
+  process-functions-met es = bind-fails (loop-fails Map.is-changed (Map.process-step im cap) Map.rounds-left process-step-met _) (λ _. result)
+
+  pub last-step-met : (r : Round) → Met (Map.last-step im cap r)
+  unfolding Map.last-step
+  last-step-met r = bind-fails (finalize-functions-met true (r .entries)) (λ t. if-fails (λ _. bind-fails (process-functions-met (t .entries)) (λ _. result)) (λ _. result))
+
+  pub last-rounds-met : (es : List Entry) → Met (Map.last-rounds im cap es)
+  unfolding Map.last-rounds
+  last-rounds-met es = bind-fails (loop-fails Map.is-changed (Map.last-step im cap) Map.rounds-left last-step-met _) (λ _. result)
+
+  pub add-symbol-met : (f : Symbol) (es : List Entry) → Met (Map.add-symbol im cap f es)
   unfolding Map.add-symbol
-  add-symbols-met [] es = result
-  add-symbols-met (f ∷ fs) es = bind-fails (bind-fails (add-entry-met _ es) (λ _. result)) (λ gs. add-symbols-met fs gs)
+  add-symbol-met f es = bind-fails (add-entry-met _ es) (λ _. result)
 
-  detect-met : Met (Map.detect im cap)
-  unfolding Map.detect Map.detect-functions Map.walk-given Map.first-entries Map.process-entry-point Map.all-finalized
+  pub add-symbols-met : (fs : List Symbol) (es : List Entry) → Met (Map.add-symbols im cap fs es)
+  add-symbols-met [] es = result
+  add-symbols-met (f ∷ fs) es = bind-fails (add-symbol-met f es) (λ gs. add-symbols-met fs gs)
+
+  pub walk-given-met : Met (Map.walk-given im cap)
+  unfolding Map.walk-given Map.first-entries Map.process-entry-point
+  walk-given-met =
+      bind-fails (bind-fails (add-symbols-met (im .functions) []) (λ es. add-entry-met _ es))
+      (λ es. bind-fails (process-each-met (map entryOf es) es) (λ fs. if-fails (λ _. result) (λ _. process-function-at-met _ fs)))
+
+  pub detect-met : Met (Map.detect im cap)
+  unfolding Map.detect Map.detect-functions Map.all-finalized
   detect-met =
-      bind-fails
-      (bind-fails (bind-fails (add-symbols-met (im .functions) []) (λ es. add-entry-met _ es))
-      (λ es. bind-fails (process-each-met (map entryOf es) es) (λ fs. if-fails (λ _. result) (λ _. process-function-at-met _ fs))))
+      bind-fails walk-given-met
       (λ es. bind-fails (process-functions-met es) (λ fs. bind-fails (last-rounds-met fs) (λ gs. if-fails (λ _. number (lit≤ tt, lit≤ tt)) (λ _. result))))
 
 -- a run that gives no map gives the number of a fault
