@@ -3,7 +3,7 @@ use Prim.Native.Nat.{ℕ, zero, suc, _+_, _≤_, _<_}
 use mathlib.Core.Path.{_≡_, refl, sym, ap, _∙_, subst}
 use mathlib.Core.Bool.{Bool, true, false, false≢true, _&&_}
 use mathlib.Core.List.{List, [], _∷_, map}
-use mathlib.Core.Logic.{_⊎_, inl, inr}
+use mathlib.Core.Logic.{inl, inr}
 use mathlib.Core.Option.{Option, none as nothing, some}
 use native.Mathlib.Omega.{arith}
 use lib.Dec.{eqb}
@@ -29,7 +29,7 @@ use Rattle.cfa_detect.specs.Behind.{IsRound}
 use Rattle.cfa_detect.specs.declared.Detected.{Detected}
 use Rattle.cfa_settle.specs.Turns.{In, Owns, Ready, Went, Turned}
 use Rattle.cfa_finalize.specs.Near.{LowIn, AllLow, Near}
-use Rattle.cfa_finalize.proofs.Stays.{StaysIn, finalize-stays, filter-rising}
+use Rattle.cfa_finalize.proofs.Stays.{finalize-stays, filter-rising}
 
 -- ---- an entry that is still to come
 

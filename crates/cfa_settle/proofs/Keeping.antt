@@ -6,7 +6,7 @@ use mathlib.Core.List.{List}
 use lib.Dec.{lit≤}
 use lib.ListN.{take, drop}
 use borrow.Author.Tests.{eq-eqb, ne-eqb}
-use Rattle.rules.specs.Choice.{if, if-true, if-false, Answer, ok, fault, _>>=_}
+use Rattle.rules.specs.Choice.{if-true, if-false, Answer, ok, fault, _>>=_}
 use Rattle.rules.specs.Loop.{result, number, bind-fails, if-fails}
 use Rattle.rules.specs.Blocks.{last-end}
 use Rattle.rules.specs.Image.{Image}
@@ -24,7 +24,7 @@ use Rattle.cfa_entries.specs.Adding.{Entered}
 use Rattle.cfa_entries.proofs.Each.{Gone, gone, lost}
 use Rattle.cfa_entries.proofs.Keys.{keys-met}
 use Rattle.cfa_store.proofs.Keeping.{added}
-use Rattle.cfa_settle.specs.Turns.{kept, Went, Turned}
+use Rattle.cfa_settle.specs.Turns.{kept, Turned}
 
 -- one step after the other, in whichever order they are joined
 pub bind-assoc : {A B C : Type 0} (a : Answer A) (f : A → Answer B) (g : B → Answer C) → (a >>= f >>= g) ≡ (a >>= λ x. f x >>= g)

@@ -2,7 +2,7 @@
 use Prim.Native.Nat.{ℕ, _*_, _/_}
 use native.Mathlib.Nat.{add-zero}
 use mathlib.Core.Path.{_≡_, refl, sym, ap, _∙_}
-use mathlib.Core.Bool.{Bool, true, false}
+use mathlib.Core.Bool.{Bool}
 use mathlib.Core.List.{List}
 use lib.Dec.{eqb}
 use Rattle.rules.specs.Choice.{if, Answer, ok, fault, _>>=_}
@@ -15,7 +15,6 @@ use Rattle.rules.specs.Map as rules
 use Rattle.obj.specs.Lent.{Lent, image}
 use Rattle.obj.specs.declared.sections.Code.{Code}
 use Rattle.lists.specs.View.{view}
-use Rattle.lists.specs.declared.Small.{Small}
 use Rattle.known.specs.Table.{Kept, Knows}
 use Rattle.walk.specs.State.{Listed}
 use Rattle.callback_around.specs.declared.around.Around.{Around}
