@@ -1,0 +1,4 @@
+pub mod Lows
+pub mod Notes
+pub mod Stays
+pub mod Turning

@@ -1,0 +1,161 @@
+// AnalyzerState::finalize_functions (cfa.rs): each function that has no end yet is finalized, if all its possible blocks can be settled.
+ghost use mathlib.Core.Path.{_≡_};
+ghost use mathlib.Core.List.{List, map};
+ghost use Prim.Native.Nat.{_≤_, _<_};
+ghost use lib.ListN.{length, take};
+ghost use Rattle.rules.specs.Choice.{filter};
+ghost use Rattle.rules.specs.Known.{Entry, entryOf, is-unfinalized};
+ghost use Rattle.rules.specs.Map as rules;
+ghost use Rattle.obj.specs.Lent.{Lent, image};
+ghost use Rattle.entries.specs.Table.{Holds, Good, capacity};
+ghost use Rattle.cfa_process.specs.Displayed.{Displays, Displayed};
+ghost use Rattle.cfa_detect.specs.Behind.{IsRound};
+ghost use Rattle.cfa_finalize.specs.Near.{Near, Noted, AreNoted};
+use cfa_detect::Detected;
+
+// The key of entry i behind the m others, if the entry has lists and no end; how many there are then.
+fn put_unfinalized(
+    known: &[u64],
+    infos: &[u64],
+    lists: &[u64],
+    n: usize,
+    i: usize,
+    keys: &mut [u64],
+    m: usize,
+) -> usize
+    requires table { ⌜ Good n (now known) (now infos) (now lists) × (i < n) ⌝ }
+    requires room { ⌜ m < length (now keys) ⌝ }
+    ensures { λ r. ⌜ Noted n (now (known .entry)) (now (infos .entry)) (now (lists .entry)) i (now (keys .entry)) m (now (keys .exit)) r ⌝ }
+{
+    if entries::is_unfinalized(known, infos, lists, n, i) {
+        keys[m] = known[i];
+        return m + 1;
+    }
+    m
+}
+
+// The keys of the entries that have lists and no end; how many there are.
+fn unfinalized(known: &[u64], infos: &[u64], lists: &[u64], n: usize, keys: &mut [u64]) -> usize
+    requires table { ⌜ Good n (now known) (now infos) (now lists) ⌝ }
+    requires room { ⌜ length (now keys) ≡ 1024 ⌝ }
+    ensures { λ r. ⌜ AreNoted n (now (known .entry)) (now (infos .entry)) (now (lists .entry)) (now (keys .exit)) r ⌝ }
+{
+    let mut m: usize = 0;
+    let mut i: usize = 0;
+    while i < n {
+        m = put_unfinalized(known, infos, lists, n, i, keys, m);
+        i += 1;
+    }
+    m
+}
+
+// The functions at the first m of the keys are finalized, one after the other. Others may be added in between, so each is looked up.
+fn finalize_each(
+    sections: &[u32],
+    bytes: &[u8],
+    outcomes: &[u32],
+    functions: &[u32],
+    objects: &[u32],
+    skips: &[u32],
+    known: &mut [u64],
+    infos: &mut [u64],
+    lists: &mut [u64],
+    k: &mut [u64],
+    v: &mut [u64],
+    code: obj::sections::Code,
+    n: usize,
+    room: usize,
+    last: bool,
+    keys: &[u64],
+    m: usize,
+) -> Detected
+    requires image { ⌜ Displayed (now sections) (now bytes) (now outcomes) (now functions) (now objects) (now skips) code ⌝ }
+    requires near { ⌜ Near n (now known) (now infos) (now lists) ⌝ }
+    requires lent { ⌜ (length (now k) ≡ 2176) × (length (now v) ≡ 1536) ⌝ }
+    requires keys { ⌜ (m ≤ 1024) × (m ≤ length (now keys)) × ((es : List Entry) → Holds n (now known) (now infos) (now lists) es → take m (now keys) ≡ map entryOf (filter is-unfinalized es)) ⌝ }
+    ensures { λ r. ⌜ ((l : Lent) (es : List Entry) → Displays l (now (sections .entry)) (now (bytes .entry)) (now (outcomes .entry)) (now (functions .entry)) (now (objects .entry)) (now (skips .entry)) code → Holds n (now (known .entry)) (now (infos .entry)) (now (lists .entry)) es → IsRound (rules.finalize-functions (image l) (capacity room (now (lists .entry))) last es) (now (known .exit)) (now (infos .exit)) (now (lists .exit)) r) ⌝ }
+{
+    let mut count = n;
+    let mut changed = false;
+    let mut i: usize = 0;
+    while i < m {
+        let r = cfa_settle::finalize_function(
+            sections,
+            bytes,
+            outcomes,
+            functions,
+            objects,
+            skips,
+            known,
+            infos,
+            lists,
+            k,
+            v,
+            code,
+            count,
+            room,
+            last,
+            keys[i],
+            changed,
+        );
+        if r.fault != 0 {
+            return r;
+        }
+        count = r.count;
+        changed = r.changed;
+        i += 1;
+    }
+    Detected {
+        count,
+        changed,
+        fault: 0,
+    }
+}
+
+// The entries that have lists and no end now are finalized, those that can be; last: whether possible blocks are taken for the function's
+// own where nothing speaks against it.
+pub fn finalize_functions(
+    sections: &[u32],
+    bytes: &[u8],
+    outcomes: &[u32],
+    functions: &[u32],
+    objects: &[u32],
+    skips: &[u32],
+    known: &mut [u64],
+    infos: &mut [u64],
+    lists: &mut [u64],
+    k: &mut [u64],
+    v: &mut [u64],
+    code: obj::sections::Code,
+    n: usize,
+    room: usize,
+    last: bool,
+) -> Detected
+    requires image { ⌜ Displayed (now sections) (now bytes) (now outcomes) (now functions) (now objects) (now skips) code ⌝ }
+    requires good { ⌜ Good n (now known) (now infos) (now lists) ⌝ }
+    requires near { ⌜ Near n (now known) (now infos) (now lists) ⌝ }
+    requires lent { ⌜ (length (now k) ≡ 2176) × (length (now v) ≡ 1536) ⌝ }
+    ensures { λ r. ⌜ ((l : Lent) (es : List Entry) → Displays l (now (sections .entry)) (now (bytes .entry)) (now (outcomes .entry)) (now (functions .entry)) (now (objects .entry)) (now (skips .entry)) code → Holds n (now (known .entry)) (now (infos .entry)) (now (lists .entry)) es → IsRound (rules.finalize-functions (image l) (capacity room (now (lists .entry))) last es) (now (known .exit)) (now (infos .exit)) (now (lists .exit)) r) ⌝ }
+{
+    let mut keys: [u64; 1024] = [0; 1024];
+    let m = unfinalized(known, infos, lists, n, &mut keys);
+    finalize_each(
+        sections,
+        bytes,
+        outcomes,
+        functions,
+        objects,
+        skips,
+        known,
+        infos,
+        lists,
+        k,
+        v,
+        code,
+        n,
+        room,
+        last,
+        &keys,
+        m,
+    )
+}

@@ -1,0 +1,4 @@
+pub mod Keeping
+pub mod Loads
+pub mod Settles
+pub mod Finals

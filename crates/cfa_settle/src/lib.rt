@@ -1,0 +1,246 @@
+// One function finalized (cfa.rs): its possible blocks are settled, and where none is left it is stored with its end.
+ghost use mathlib.Core.Path.{_≡_};
+ghost use mathlib.Core.Bool.{Bool};
+ghost use mathlib.Core.List.{List};
+ghost use lib.ListN.{length};
+ghost use Rattle.rules.specs.Choice.{ok};
+ghost use Rattle.rules.specs.Blocks.{first-start};
+ghost use Rattle.rules.specs.Slices.{Slices};
+ghost use Rattle.rules.specs.Known.{Entry};
+ghost use Rattle.rules.specs.Map as rules;
+ghost use Rattle.obj.specs.Lent.{Lent, image};
+ghost use Rattle.obj_rows.specs.Skips.{Ascending};
+ghost use Rattle.lists.specs.View.{view, Fit, Is};
+ghost use Rattle.walk.specs.State.{Low, Listed};
+ghost use Rattle.known.specs.Table.{Knows};
+ghost use Rattle.entries.specs.Table.{Holds, Good, capacity};
+ghost use Rattle.cfa_entries.specs.Adding.{Looks, Looking, Entered};
+ghost use Rattle.cfa_store.specs.Shown.{Shows, Shown};
+ghost use Rattle.cfa_process.specs.Displayed.{Displays, Displayed, Knowing};
+ghost use Rattle.cfa_settle.specs.Turns.{Owns, Ready, kept, settled-lists, Turned};
+use cfa_detect::Detected;
+use cfa_entries::Entries;
+
+// What the finalized function refers to becomes an entry; then the function is stored with its end.
+fn keep_final(
+    skips: &[u32],
+    known: &mut [u64],
+    infos: &mut [u64],
+    lists: &mut [u64],
+    k: &[u64],
+    v: &[u64],
+    code: obj::sections::Code,
+    n: usize,
+    room: usize,
+    key: u64,
+    s: lists::Small,
+) -> Entries
+    requires good { ⌜ Good n (now known) (now infos) (now lists) ⌝ }
+    requires fit { ⌜ Fit (now k) (now v) s ⌝ }
+    requires order { ⌜ Ascending (now skips) ⌝ }
+    requires image { ⌜ Looking (now skips) code ⌝ }
+    ensures { λ r. ⌜ ((l : Lent) (es : List Entry) → Looks l (now (skips .entry)) code → Holds n (now (known .entry)) (now (infos .entry)) (now (lists .entry)) es → Entered (kept (image l) (capacity room (now (lists .entry))) key (view (now (k .entry)) (now (v .entry)) s) es) (r .count) (now (known .exit)) (now (infos .exit)) (now (lists .exit)) (r .fault)) ⌝ }
+{
+    let a: usize = 1280;
+    let b: usize = 1536;
+    let r = cfa_entries::try_add_functions(
+        skips,
+        known,
+        infos,
+        lists,
+        code,
+        n,
+        room,
+        &k[a..b],
+        s.references,
+    );
+    if r.fault != 0 {
+        return r;
+    }
+    let end = lists::last_end(k, v, s);
+    let t = entry_changes::store(known, infos, lists, r.count, room, key, end, k, v, s);
+    Entries {
+        count: t.count,
+        fault: t.fault,
+    }
+}
+
+// A settled function is finalized and stored.
+fn keep_settled(
+    sections: &[u32],
+    bytes: &[u8],
+    skips: &[u32],
+    known: &mut [u64],
+    infos: &mut [u64],
+    lists: &mut [u64],
+    k: &mut [u64],
+    v: &mut [u64],
+    code: obj::sections::Code,
+    n: usize,
+    room: usize,
+    key: u64,
+    s: lists::Small,
+) -> Detected
+    requires good { ⌜ Good n (now known) (now infos) (now lists) ⌝ }
+    requires fit { ⌜ Fit (now k) (now v) s × (s .fault ≡ 0) ⌝ }
+    requires image { ⌜ Shown (now sections) (now bytes) (now skips) code ⌝ }
+    ensures { λ r. ⌜ ((l : Lent) (es : List Entry) (c : Bool) → Shows l (now (sections .entry)) (now (bytes .entry)) (now (skips .entry)) code → Holds n (now (known .entry)) (now (infos .entry)) (now (lists .entry)) es → Turned (rules.keep-settled (image l) (capacity room (now (lists .entry))) key (view (now (k .entry)) (now (v .entry)) s) (rules.round c es)) (now (known .exit)) (now (infos .exit)) (now (lists .exit)) r) ⌝ }
+{
+    let t = finalize::finalize(sections, bytes, known, k, v, code, n, s);
+    if t.fault != 0 {
+        return Detected {
+            count: n,
+            changed: false,
+            fault: t.fault,
+        };
+    }
+    let r = keep_final(skips, known, infos, lists, k, v, code, n, room, key, t);
+    Detected {
+        count: r.count,
+        changed: true,
+        fault: r.fault,
+    }
+}
+
+// The lists of the entry at key, which has some.
+fn load_at(
+    known: &[u64],
+    infos: &[u64],
+    lists: &[u64],
+    k: &mut [u64],
+    v: &mut [u64],
+    n: usize,
+    key: u64,
+) -> lists::Small
+    requires ready { ⌜ Ready n (now known) (now infos) (now lists) key ⌝ }
+    requires lent { ⌜ (length (now k) ≡ 2176) × (length (now v) ≡ 1536) ⌝ }
+    ensures { λ r. ⌜ ((es : List Entry) (s : Slices) → Holds n (now (known .entry)) (now (infos .entry)) (now (lists .entry)) es → Owns es key s → Is (ok s) (now (k .entry)) (now (k .exit)) (now (v .exit)) r) ⌝ }
+{
+    let a: usize = 0;
+    let b: usize = 1024;
+    let f = ordered::find(&known[a..b], n, key);
+    entries::load(known, infos, lists, n, f.at, k, v)
+}
+
+// The possible blocks of the function at key are settled, from the lowest address of its section on; last: whether this is the last pass.
+fn settle_lists(
+    sections: &[u32],
+    bytes: &[u8],
+    outcomes: &[u32],
+    functions: &[u32],
+    objects: &[u32],
+    skips: &[u32],
+    known: &[u64],
+    k: &mut [u64],
+    v: &mut [u64],
+    code: obj::sections::Code,
+    n: usize,
+    key: u64,
+    s: lists::Small,
+    last: bool,
+) -> lists::Small
+    requires image { ⌜ Displayed (now sections) (now bytes) (now outcomes) (now functions) (now objects) (now skips) code ⌝ }
+    requires entries { ⌜ Knowing n (now known) ⌝ }
+    requires fit { ⌜ Fit (now k) (now v) s × (s .fault ≡ 0) ⌝ }
+    requires low { ⌜ Low (first-start (view (now k) (now v) s .blocks)) ⌝ }
+    ensures { λ r. ⌜ ((l : Lent) (cap : rules.Capacity) (es : List Entry) → Displays l (now (sections .entry)) (now (bytes .entry)) (now (outcomes .entry)) (now (functions .entry)) (now (objects .entry)) (now (skips .entry)) code → Knows n (now (known .entry)) es → Listed (settled-lists (image l) cap last key (view (now (k .entry)) (now (v .entry)) s) es) (now (k .exit)) (now (v .exit)) r) ⌝ }
+{
+    let start = lists::first_start(k, v, s);
+    let end = lists::last_end(k, v, s);
+    let low = key / 0x1_0000_0000 * 0x1_0000_0000;
+    let a = callback::around::Around {
+        start,
+        end,
+        known: n,
+        code,
+    };
+    let t = settle::settle_all(
+        sections,
+        bytes,
+        outcomes,
+        functions,
+        objects,
+        known,
+        k,
+        v,
+        a,
+        s,
+        low,
+        last,
+    );
+    t.small
+}
+
+// The function at key: its possible blocks are settled, and where none is left it is finalized and stored. `changed`: whether an entry
+// changed before.
+pub fn finalize_function(
+    sections: &[u32],
+    bytes: &[u8],
+    outcomes: &[u32],
+    functions: &[u32],
+    objects: &[u32],
+    skips: &[u32],
+    known: &mut [u64],
+    infos: &mut [u64],
+    lists: &mut [u64],
+    k: &mut [u64],
+    v: &mut [u64],
+    code: obj::sections::Code,
+    n: usize,
+    room: usize,
+    last: bool,
+    key: u64,
+    changed: bool,
+) -> Detected
+    requires image { ⌜ Displayed (now sections) (now bytes) (now outcomes) (now functions) (now objects) (now skips) code ⌝ }
+    requires ready { ⌜ Ready n (now known) (now infos) (now lists) key ⌝ }
+    requires lent { ⌜ (length (now k) ≡ 2176) × (length (now v) ≡ 1536) ⌝ }
+    ensures { λ r. ⌜ ((l : Lent) (es : List Entry) (s : Slices) → Displays l (now (sections .entry)) (now (bytes .entry)) (now (outcomes .entry)) (now (functions .entry)) (now (objects .entry)) (now (skips .entry)) code → Holds n (now (known .entry)) (now (infos .entry)) (now (lists .entry)) es → Owns es key s → Turned (rules.finalize-function (image l) (capacity room (now (lists .entry))) last key s (rules.round changed es)) (now (known .exit)) (now (infos .exit)) (now (lists .exit)) r) ⌝ }
+{
+    let s = load_at(known, infos, lists, k, v, n, key);
+    let t = settle_lists(
+        sections,
+        bytes,
+        outcomes,
+        functions,
+        objects,
+        skips,
+        known,
+        k,
+        v,
+        code,
+        n,
+        key,
+        s,
+        last,
+    );
+    if t.fault != 0 {
+        return Detected {
+            count: n,
+            changed,
+            fault: t.fault,
+        };
+    }
+    if t.possible == 0 {
+        return keep_settled(
+            sections,
+            bytes,
+            skips,
+            known,
+            infos,
+            lists,
+            k,
+            v,
+            code,
+            n,
+            room,
+            key,
+            t,
+        );
+    }
+    Detected {
+        count: n,
+        changed,
+        fault: 0,
+    }
+}
