@@ -4,8 +4,8 @@ use mathlib.Core.List.{List, [], _∷_, _++_}
 use Prim.Native.Nat.{ℕ, suc, _+_, _<_, _≤_}
 use native.Mathlib.Numerals.{add-one}
 use native.Mathlib.Omega.{arith}
-use lib.ListN.{length, take, drop, getD, drop-of-length-le}
-use lib.Seq.{drop-cons, getD-take, length-take-le}
+use lib.ListN.{length, take, drop, getD, length-drop, drop-of-length-le}
+use lib.Seq.{drop-cons, getD-take, getD-drop, length-take-le}
 use borrow.Author.Tests.{eq-eqb, ne-eqb, lt-ltb, le-ltb}
 use Rattle.rules.specs.Choice.{if-true, if-false}
 use Rattle.rules.specs.Lines.{digit, hex, address, address-or-dash}
@@ -14,21 +14,24 @@ use Rattle.printing_lines.specs.Columns.{second, line, lines}
 use Rattle.printing_lines.proofs.Printing.{Going, going-first, going-on, going-ends}
 
 -- the lines from row i on
-abbrev pub rest : ℕ → List ℕ → List ℕ → ℕ → ℕ → List ℕ
-rest t xs ys n i = lines t (drop i (take n xs)) (drop i (take n ys))
+abbrev pub rest : ℕ → List ℕ → ℕ → ℕ → ℕ → ℕ → List ℕ
+rest t l a b n i = lines t (drop i (take n (drop a l))) (drop i (take n (drop b l)))
 
-module _ (t : ℕ) (xs ys : List ℕ) (n : ℕ) (hx : n ≤ length xs) (hy : n ≤ length ys) where
-  column : (zs : List ℕ) → n ≤ length zs → (i : ℕ) → i < n → drop i (take n zs) ≡ getD zs i 0 ∷ drop (i + 1) (take n zs)
-  column zs hz i h =
-      drop-cons (take n zs) i 0 (omega (arith, length-take-le n zs hz))
-      ∙ ap₂ (λ (z j : ℕ). z ∷ drop j (take n zs)) (getD-take n zs i 0 h) (sym (add-one i))
+module _ (t : ℕ) (l : List ℕ) (a b n : ℕ) (ha : a + n ≤ length l) (hb : b + n ≤ length l) where
+  long : (c : ℕ) → c + n ≤ length l → length (take n (drop c l)) ≡ n
+  long c h = length-take-le n (drop c l) (omega (arith, length-drop c l))
 
-  pub rest-next : (i : ℕ) → i < n → rest t xs ys n i ≡ line t (getD xs i 0) (getD ys i 0) ++ rest t xs ys n (i + 1)
-  rest-next i h = ap₂ (λ (ps qs : List ℕ). lines t ps qs) (column xs hx i h) (column ys hy i h)
+  column : (c : ℕ) → c + n ≤ length l → (i : ℕ) → i < n → drop i (take n (drop c l)) ≡ getD l (c + i) 0 ∷ drop (i + 1) (take n (drop c l))
+  column c hc i h =
+      drop-cons (take n (drop c l)) i 0 (omega (arith, long c hc))
+      ∙ ap₂ (λ (z j : ℕ). z ∷ drop j (take n (drop c l))) (getD-take n (drop c l) i 0 h ∙ getD-drop c l i 0) (sym (add-one i))
 
-  pub rest-none : (i : ℕ) → n ≤ i → rest t xs ys n i ≡ []
+  pub rest-next : (i : ℕ) → i < n → rest t l a b n i ≡ line t (getD l (a + i) 0) (getD l (b + i) 0) ++ rest t l a b n (i + 1)
+  rest-next i h = ap₂ (λ (ps qs : List ℕ). lines t ps qs) (column a ha i h) (column b hb i h)
+
+  pub rest-none : (i : ℕ) → n ≤ i → rest t l a b n i ≡ []
   rest-none i h =
-      ap (λ (ps : List ℕ). lines t ps (drop i (take n ys))) (drop-of-length-le (take n xs) {i = i} (omega (arith, length-take-le n xs hx)))
+      ap (λ (ps : List ℕ). lines t ps (drop i (take n (drop b l)))) (drop-of-length-le (take n (drop a l)) {i = i} (omega (arith, long a ha)))
 
 -- ---- by a test
 

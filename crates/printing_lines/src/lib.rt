@@ -1,8 +1,8 @@
 // The lines of a map, printed into a lent slice from a place on. Each function answers the place past what it printed.
 ghost use mathlib.Core.Path.{_≡_};
 ghost use mathlib.Core.List.{[], _∷_, _++_};
-ghost use Prim.Native.Nat.{_<_, _≤_};
-ghost use lib.ListN.{length, take};
+ghost use Prim.Native.Nat.{_+_, _<_, _≤_};
+ghost use lib.ListN.{length, take, drop};
 ghost use Rattle.rules.specs.Lines as rules;
 ghost use Rattle.printing_lines.specs.Printed.{Room, Printed};
 ghost use Rattle.printing_lines.specs.Columns as columns;
@@ -126,16 +126,24 @@ pub fn put_line(out: &mut [u8], at: usize, tag: u8, a: u64, b: u64) -> usize
     put_byte(out, q, 10)
 }
 
-// A line for each of the first n rows of two columns.
-pub fn put_lines(out: &mut [u8], at: usize, tag: u8, xs: &[u64], ys: &[u64], n: usize) -> usize
-    requires columns { ⌜ (n ≤ length (now xs)) × (n ≤ length (now ys)) ⌝ }
-    requires room { ⌜ Room (columns.lines tag (take n (now xs)) (take n (now ys))) (now out) at ⌝ }
-    ensures { λ r. ⌜ Printed (columns.lines tag (take n (now (xs .entry))) (take n (now (ys .entry)))) (now (out .entry)) at (now (out .exit)) r ⌝ }
+// A line for each of n rows, whose columns begin at a and at b.
+pub fn put_lines(
+    out: &mut [u8],
+    at: usize,
+    tag: u8,
+    l: &[u64],
+    a: usize,
+    b: usize,
+    n: usize,
+) -> usize
+    requires columns { ⌜ (a + n ≤ length (now l)) × (b + n ≤ length (now l)) ⌝ }
+    requires room { ⌜ Room (columns.lines tag (take n (drop a (now l))) (take n (drop b (now l)))) (now out) at ⌝ }
+    ensures { λ r. ⌜ Printed (columns.lines tag (take n (drop a (now (l .entry)))) (take n (drop b (now (l .entry))))) (now (out .entry)) at (now (out .exit)) r ⌝ }
 {
     let mut p = at;
     let mut i: usize = 0;
     while i < n {
-        p = put_line(out, p, tag, xs[i], ys[i]);
+        p = put_line(out, p, tag, l[a + i], l[b + i]);
         i += 1;
     }
     p
