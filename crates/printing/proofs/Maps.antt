@@ -9,12 +9,13 @@ use Rattle.rules.specs.Choice.{ok, fault}
 use Rattle.rules.specs.Known.{Entry}
 use Rattle.rules.specs.Lines.{text, line-R, lines-entry, lines-map, lines}
 use Rattle.stored.specs.Laid.{laid}
-use Rattle.entries.specs.Table.{info-row, entry-numbers, flat, row-size, AllRight}
+use Rattle.entries.specs.Table.{info-row, entry-numbers, flat, row-size}
 use Rattle.entries.proofs.Rows.{row-long, row-behind, row-numbers, begins-form, begins-le}
-use Rattle.entries.proofs.Reading.{entry-read}
+use Rattle.results.specs.Rows.{result-row, map-of}
+use Rattle.results.proofs.Reading.{map-read}
 use Rattle.printing_lines.specs.Printed.{Room, Printed}
 use Rattle.printing_lines.proofs.Printing.{printed-then, Going, going-first, going-on, going-ends}
-use Rattle.printing.specs.Rows.{result-row, first-entry, map-of, There, Tells, Telling}
+use Rattle.printing.specs.Rows.{first-entry, There, Tells, Telling}
 use Rattle.printing.specs.Told.{Begun}
 use Rattle.printing.proofs.Columns.{text-append}
 use Rattle.printing.proofs.Lengths.{map-short}
@@ -27,15 +28,6 @@ module _ (x : Entry) (Z Y : List ℕ) where
 
   numbers-behind : drop (row-size (drop 2 (result-row x ++ Z))) (entry-numbers x ++ Y) ≡ Y
   numbers-behind = drop-at (entry-numbers x) Y (row-size (info-row x ++ Z)) (sym (row-numbers (x .analyzed) (x .slices) Z))
-
-map-read : (es : List Entry) (z y : List ℕ) → AllRight es → map-of (length es) (flat result-row es ++ z) (flat entry-numbers es ++ y) ≡ es
-map-read [] z y r = refl
-map-read (x ∷ es) z y r =
-    let Z : List ℕ = flat result-row es ++ z in
-    let Y : List ℕ = flat entry-numbers es ++ y in
-    ap₂ (λ (i l : List ℕ). map-of (suc (length es)) i l) (append-assoc (result-row x) (flat result-row es) z) (append-assoc (entry-numbers x) (flat entry-numbers es) y)
-    ∙ ap₂ (λ (e : Entry) (l : List Entry). e ∷ l) (entry-read x Z Y (r .0))
-    (ap₂ (λ (i l : List ℕ). map-of (length es) i l) (row-behind-it x Z Y) (numbers-behind x Z Y) ∙ map-read es z y (r .1))
 
 there-is : (n : ℕ) {a a′ b b′ : List ℕ} → a ≡ a′ → b ≡ b′ → There n a′ b′ → There n a b
 there-is n e f t = rw (e, f) t

@@ -1,25 +1,16 @@
--- The map in the lent result lists. `rows` has ten numbers for each entry: its address, its end (0 for none), and the eight of its row in
--- the table of entries. `lists` has the numbers of the functions' lists, one function's directly behind the other's.
+-- The result lists that a map is printed from (`results` has what stands where in them).
 use mathlib.Core.Path.{_≡_}
-use mathlib.Core.List.{List, [], _∷_}
+use mathlib.Core.List.{List}
 use Prim.Native.Nat.{ℕ, zero, suc, _≤_}
-use lib.ListN.{length, take, drop, getD}
+use lib.ListN.{length, drop, getD}
 use Rattle.rules.specs.Blocks.{block}
 use Rattle.rules.specs.Known.{Entry}
-use Rattle.entries.specs.Table.{info-row, entry-numbers, flat, row-size, entry-from, Begins, AllRight}
-
--- an entry's ten numbers
-abbrev pub result-row : Entry → List ℕ
-result-row x = x .entry ∷ x .end ∷ info-row x
+use Rattle.entries.specs.Table.{entry-numbers, flat, row-size, entry-from, Begins, AllRight}
+use Rattle.results.specs.Rows.{result-row}
 
 -- the entry whose row and whose numbers stand first
 abbrev pub first-entry : List ℕ → List ℕ → Entry
 first-entry rows lists = entry-from (block (getD rows 0 0) (getD rows 1 0)) (drop 2 rows) lists
-
--- the n entries of the map, read back from the lists
-abbrev pub map-of : ℕ → List ℕ → List ℕ → List Entry
-map-of zero rows lists = []
-map-of (suc n) rows lists = first-entry rows lists ∷ map-of n (drop 10 rows) (drop (row-size (drop 2 rows)) lists)
 
 -- the rows of n entries are there, with their numbers
 abbrev pub There : ℕ → List ℕ → List ℕ → Type 0

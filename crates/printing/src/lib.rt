@@ -9,7 +9,8 @@ ghost use Rattle.rules.specs.Lines as rules;
 ghost use Rattle.entries.specs.Columns.{numbers-long};
 ghost use Rattle.entries.specs.Table.{row-size};
 ghost use Rattle.printing_lines.specs.Printed.{Room, Printed};
-ghost use Rattle.printing.specs.Rows.{first-entry, map-of, There, Tells, Telling};
+ghost use Rattle.results.specs.Rows.{map-of};
+ghost use Rattle.printing.specs.Rows.{first-entry, There, Tells, Telling};
 ghost use Rattle.printing.specs.Told.{Begun, of-function, flow, others};
 
 // Blocks and ways on, from a function's numbers.
