@@ -1,17 +1,16 @@
 -- The lines of a function's lists are those of the columns among its numbers.
 use mathlib.Core.Path.{_≡_, refl, sym, ap, ap₂, _∙_}
-use mathlib.Core.Bool.{Bool}
-use mathlib.Core.List.{List, [], _∷_, _++_, append-assoc, append-nil}
-use Prim.Native.Nat.{ℕ, _+_, _≤_}
+use mathlib.Core.List.{List, [], _∷_, _++_, append-assoc}
+use Prim.Native.Nat.{ℕ}
 use native.Mathlib.Omega.{arith}
 use lib.Dec.{eqb}
-use lib.ListN.{length, take, drop}
+use lib.ListN.{take, drop}
 use lib.Seq.{take-take}
 use borrow.Author.Tests.{eqb-true}
 use Rattle.rules.specs.Choice.{if, by-if}
 use Rattle.rules.specs.Text.{bytes}
-use Rattle.rules.specs.Blocks.{Block, block}
-use Rattle.rules.specs.Slices.{Slices, Ways, Table}
+use Rattle.rules.specs.Blocks.{block}
+use Rattle.rules.specs.Slices.{Ways}
 use Rattle.rules.specs.Lines.{Line, address, text, lines-B, lines-from, lines-C, lines-X, lines-J}
 use Rattle.ordered.specs.Columns.{join}
 use Rattle.lists.specs.Groups.{Pair, pair, add-way, grouped}

@@ -1,19 +1,17 @@
 -- How long the text of a map is at most.
-use mathlib.Core.Path.{_≡_, refl, sym, ap, ap₂, _∙_}
-use mathlib.Core.Bool.{Bool, true, false}
+use mathlib.Core.Path.{_≡_, ap, _∙_}
 use mathlib.Core.List.{List, [], _∷_, _++_}
 use mathlib.Core.Option.{Option, none, some}
 use Prim.Native.Nat.{ℕ, _+_, _*_, _≤_}
 use native.Mathlib.Omega.{arith}
 use lib.Dec.{eqb}
 use lib.ListN.{length, length-append}
-use Rattle.rules.specs.Choice.{if, by-if}
+use Rattle.rules.specs.Choice.{by-if}
 use Rattle.rules.specs.Text.{bytes}
 use Rattle.rules.specs.Blocks.{Block}
 use Rattle.rules.specs.Slices.{Slices, Ways, Table, count-ways}
-use Rattle.rules.specs.OneFunction.{numbers}
 use Rattle.rules.specs.Known.{Entry, is-function}
-use Rattle.rules.specs.Lines.{Line, address, address-or-dash, flag, text, line-F, lines-B, lines-from, lines-C, lines-X, lines-J, lines-function, lines-entry, lines-map}
+use Rattle.rules.specs.Lines.{Line, address-or-dash, flag, text, line-F, lines-B, lines-from, lines-C, lines-X, lines-J, lines-function, lines-entry, lines-map}
 use Rattle.stored.proofs.Numbers.{flow-count, others-count, parted-count}
 use Rattle.entries.specs.Table.{numbers-in, entry-numbers, flat}
 use Rattle.printing.proofs.Columns.{text-append}

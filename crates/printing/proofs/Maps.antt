@@ -1,17 +1,16 @@
 -- The entries read back from the result lists, and what is printed of them.
 use mathlib.Core.Path.{_≡_, refl, sym, ap, ap₂, _∙_}
 use mathlib.Core.List.{List, [], _∷_, _++_, append-assoc}
-use Prim.Native.Nat.{ℕ, zero, suc, _+_, _*_, _-_, _<_, _≤_}
+use Prim.Native.Nat.{ℕ, suc, _+_, _*_, _-_, _<_, _≤_}
 use native.Mathlib.Omega.{arith}
-use lib.ListN.{length, take, drop, length-append, length-drop}
+use lib.ListN.{length, take, drop, replicate, length-append, length-drop}
 use lib.Seq.{drop-at, take-at, take-all, drop-drop}
 use Rattle.rules.specs.Choice.{ok, fault}
 use Rattle.rules.specs.Known.{Entry}
 use Rattle.rules.specs.Lines.{text, line-R, lines-entry, lines-map, lines}
-use Rattle.stored.specs.Laid.{laid}
-use Rattle.entries.specs.Table.{info-row, entry-numbers, flat, row-size}
-use Rattle.entries.proofs.Rows.{row-long, row-behind, row-numbers, begins-form, begins-le}
-use Rattle.results.specs.Rows.{result-row, map-of}
+use Rattle.entries.specs.Table.{info-row, entry-numbers, flat, row-size, AllRight}
+use Rattle.entries.proofs.Rows.{row-long, row-behind, row-numbers, begins-form, begins-of, begins-le}
+use Rattle.results.specs.Rows.{result-row, map-of, Results}
 use Rattle.results.proofs.Reading.{map-read}
 use Rattle.printing_lines.specs.Printed.{Room, Printed}
 use Rattle.printing_lines.proofs.Printing.{printed-then, Going, going-first, going-on, going-ends}
@@ -58,6 +57,16 @@ module _ (n : ℕ) (rows lists : List ℕ) (es : List Entry) (t : Tells n rows l
   pub short : length (text (lines-map (map-of n rows lists))) ≤ 46 * n + 11 * length lists
   short = rw map-is (omega (arith, map-short es, t .count, begins-le (flat entry-numbers es) lists (t .numbers-are)))
 
+-- what `results::put_results` leaves tells its entries
+pub results-tell : (n : ℕ) (es : List Entry) (rows-before lists-before rows lists : List ℕ) (total : ℕ) → length es ≡ n → AllRight es → Results es rows-before lists-before rows lists total → Tells n rows lists es
+results-tell n es rows-before lists-before rows lists total count right r =
+    record {
+      count = count;
+      rows-are = begins-of (flat result-row es) (replicate (length rows-before - length (flat result-row es)) 0) rows (r .rows-are);
+      numbers-are = begins-of (flat entry-numbers es) (replicate (length lists-before - length (flat entry-numbers es)) 0) lists (r .lists-are);
+      right = right;
+    }
+
 -- ---- the loop over them
 
 -- a slice from a place on
@@ -83,12 +92,6 @@ module _ (n : ℕ) (rows lists out₀ : List ℕ) (at : ℕ) where
     module _ (lt : i < n) where
       one : n - i ≡ suc (n - (i + 1))
       one = omega arith
-
-      R : List ℕ
-      R = drop (i * 10) rows
-
-      L : List ℕ
-      L = drop q lists
 
       pub first-there : (10 ≤ length (drop (i * 10) rows)) × (row-size (drop 2 (drop (i * 10) rows)) ≤ length (drop q lists))
       first-there = let t : There (suc (n - (i + 1))) (drop (i * 10) rows) (drop q lists) = rw one at (l .there) in (t .0, t .1)

@@ -1,7 +1,7 @@
 -- The lines of two columns, one by one.
-use mathlib.Core.Path.{_≡_, refl, sym, ap, ap₂, _∙_}
+use mathlib.Core.Path.{_≡_, sym, ap, ap₂, _∙_}
 use mathlib.Core.List.{List, [], _∷_, _++_}
-use Prim.Native.Nat.{ℕ, suc, _+_, _<_, _≤_}
+use Prim.Native.Nat.{ℕ, _+_, _<_, _≤_}
 use native.Mathlib.Numerals.{add-one}
 use native.Mathlib.Omega.{arith}
 use lib.ListN.{length, take, drop, getD, length-drop, drop-of-length-le}
@@ -9,9 +9,7 @@ use lib.Seq.{drop-cons, getD-take, getD-drop, length-take-le}
 use borrow.Author.Tests.{eq-eqb, ne-eqb, lt-ltb, le-ltb}
 use Rattle.rules.specs.Choice.{if-true, if-false}
 use Rattle.rules.specs.Lines.{digit, hex, address, address-or-dash}
-use Rattle.printing_lines.specs.Printed.{Room, Printed}
 use Rattle.printing_lines.specs.Columns.{second, line, lines}
-use Rattle.printing_lines.proofs.Printing.{Going, going-first, going-on, going-ends}
 
 -- the lines from row i on
 abbrev pub rest : ℕ → List ℕ → ℕ → ℕ → ℕ → ℕ → List ℕ

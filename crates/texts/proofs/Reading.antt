@@ -1,18 +1,18 @@
 -- Lines put one after the other.
-use mathlib.Core.Path.{_≡_, refl, sym, ap, ap₂, _∙_}
+use mathlib.Core.Path.{_≡_, refl, sym, ap, _∙_}
 use mathlib.Core.List.{List, [], _∷_}
 use mathlib.Core.Bool.{Bool, true, false}
 use mathlib.Core.Option.{Option, none, some}
-use Prim.Native.Nat.{ℕ, _+_, _-_, _<_, _≤_}
+use Prim.Native.Nat.{ℕ, _+_, _-_, _≤_}
 use native.Mathlib.Omega.{arith}
 use lib.ListN.{length, take, drop, drop-of-length-le}
 use Rattle.rules.specs.Choice.{if}
-use Rattle.obj_image.specs.Lent.{Lent, lent}
+use Rattle.obj_image.specs.Lent.{Lent}
 use Rattle.frames.specs.Frames.{read-frame}
 use Rattle.frames.specs.Struct.{frame-of}
 use Rattle.frames.specs.declared.line.Frame.{Frame}
 use Rattle.reading.specs.PutFrame.{Room, put-line}
-use Rattle.reading.specs.View.{lists, view, room, Fit, FramePut}
+use Rattle.reading.specs.View.{lists, view, room, FramePut}
 use Rattle.reading.specs.declared.state.Reading.{Reading}
 use Rattle.texts.specs.Texts.{lines-of, put-next, put-lines, read-text, Ends, Kept, LinePut, TextRead}
 

@@ -1,11 +1,10 @@
 -- Texts, with the lists that they come to: computed.
 use mathlib.Core.Path.{_≡_, refl}
-use mathlib.Core.List.{List, [], _∷_, _++_}
-use mathlib.Core.Option.{Option, none, some}
-use Prim.Native.Nat.{ℕ}
+use mathlib.Core.List.{[], _∷_}
+use mathlib.Core.Option.{none, some}
 use Rattle.rules.specs.Choice.{if}
 use Rattle.rules.specs.Text.{bytes}
-use Rattle.obj_image.specs.Lent.{Lent, lent}
+use Rattle.obj_image.specs.Lent.{lent}
 use Rattle.frames.specs.Frames.{digit-value, number, tagged, read-frame}
 use Rattle.frames.specs.Rows.{add-row}
 use Rattle.frames.specs.LastRows.{back, set-back, last-kind, add-word, last-is}

@@ -1,12 +1,7 @@
 use Rattle.printing.proofs.Maps.{row-within}
 use Prim.Native.Nat.{_*_, _-_}
-use mathlib.Core.Path.{ap, _∙_}
-use mathlib.Core.List.{List}
-use Prim.Native.Nat.{ℕ}
-use lib.ListN.{drop}
 use native.Mathlib.Omega.{arith}
 use borrow.Author.Needs.{needs}
-use Rattle.entries.specs.Table.{row-size}
 use Rattle.printing.proofs.Maps.{tail-is, Left, left-first, left-ends, first-there, size-there, first-room, left-next}
 use Rattle.printing.proofs.put_entries.Statement.{statement}
 use Rattle.printing.proofs.put_entries.Tie as tie

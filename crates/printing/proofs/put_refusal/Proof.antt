@@ -1,10 +1,11 @@
+use native.Mathlib.Omega.{arith}
 use Rattle.printing.proofs.Maps.{refusal-begun, answer-room}
 use borrow.Author.Needs.{needs}
 use Rattle.printing.proofs.put_refusal.Statement.{statement}
 use Rattle.printing.proofs.put_refusal.Tie as tie
 
 put-answer-requires : tie.Need-put-answer-requires
-put-answer-requires c κs = (c .before .before .pre .0, answer-room _ _ (c .before .before .pre .1))
+put-answer-requires c κs = (omega (arith, c .before .before .pre .0), answer-room _ _ (c .before .before .pre .1))
 
 same-length : tie.Need-same-length
 same-length c = search needs

@@ -1,7 +1,6 @@
 use Rattle.printing_lines.proofs.Printing.{printed-none}
 use Rattle.printing_lines.proofs.Lines.{of-block, of-way, of-table, of-none}
 use native.Mathlib.Omega.{arith}
-use mathlib.Core.Path.{sym}
 use borrow.Author.Needs.{needs}
 use Rattle.printing_lines.proofs.put_second.Statement.{statement}
 use Rattle.printing_lines.proofs.put_second.Tie as tie

@@ -1,7 +1,6 @@
 use Prim.Native.Nat.{_-_}
 use native.Mathlib.Omega.{arith}
 use lib.ListN.{length}
-use borrow.Author.Needs.{needs}
 use Rattle.texts.proofs.Cutting.{Within, within-start, within-next, ends-here, ends-last}
 use Rattle.texts.proofs.line_end.Statement.{statement}
 use Rattle.texts.proofs.line_end.Tie as tie
