@@ -1,0 +1,74 @@
+use Prim.Native.Nat.{_-_, _≤_}
+use native.Mathlib.Omega.{arith}
+use lib.ListN.{take, drop}
+use borrow.Author.Needs.{needs}
+use Rattle.printing_lines.specs.Columns.{lines}
+use Rattle.printing_lines.proofs.Printing.{Going, going-first, going-on, going-ends, room-first}
+use Rattle.printing_lines.proofs.Lines.{rest, rest-next, rest-none}
+use Rattle.printing_lines.proofs.put_lines.Statement.{statement}
+use Rattle.printing_lines.proofs.put_lines.Tie as tie
+
+abbrev Inv-loop : tie.InvT-loop
+Inv-loop out₀ at tag l a b n p₀ i₀ out p i = (i ≤ n) × Going (rest tag l a b n i) (lines tag (take n (drop a l)) (take n (drop b l))) out₀ at out p
+
+abbrev μ-loop : tie.MeasureT-loop
+μ-loop out₀ at tag l a b n p₀ i₀ out p i = n - i
+
+loop-holds : tie.Need-loop-holds Inv-loop μ-loop
+loop-holds c = (omega arith, going-first _ _ _ (c .before .before .pre .1))
+
+add-put-line : tie.Need-add-put-line Inv-loop μ-loop
+add-put-line c = search needs
+
+mul-put-line : tie.Need-mul-put-line Inv-loop μ-loop
+mul-put-line c = search needs
+
+shared-slice-read-put-line : tie.Need-shared-slice-read-put-line Inv-loop μ-loop
+shared-slice-read-put-line c = search needs
+
+add-put-line-2 : tie.Need-add-put-line-2 Inv-loop μ-loop
+add-put-line-2 c = search needs
+
+mul-put-line-2 : tie.Need-mul-put-line-2 Inv-loop μ-loop
+mul-put-line-2 c = search needs
+
+shared-slice-read-put-line-2 : tie.Need-shared-slice-read-put-line-2 Inv-loop μ-loop
+shared-slice-read-put-line-2 c = search needs
+
+put-line-requires : tie.Need-put-line-requires Inv-loop μ-loop
+put-line-requires c κs = room-first _ _ _ _ (rw (rest-next _ _ _ _ _ (c .before .before .before .before .before .before .before .pre .0 .0) (c .before .before .before .before .before .before .before .pre .0 .1) _ (c .before .before .before .loop-test .taken)) at (c .before .before .before .before .loop .inv .1 .room))
+
+add-i : tie.Need-add-i Inv-loop μ-loop
+add-i c = search needs
+
+loop-less : tie.Need-loop-less Inv-loop μ-loop
+loop-less c = search needs
+
+loop-again : tie.Need-loop-again Inv-loop μ-loop
+loop-again c = (omega arith, going-on (rw (rest-next _ _ _ _ _ (c .before .before .before .before .before .before .before .before .before .before .pre .0 .0) (c .before .before .before .before .before .before .before .before .before .before .pre .0 .1) _ (c .before .before .before .before .before .before .loop-test .taken)) at (c .before .before .before .before .before .before .before .loop .inv .1)) (c .before .before .put-line .ensures))
+
+same-length : tie.Need-same-length Inv-loop μ-loop
+same-length c = c .before .loop .inv .1 .size
+
+returns : tie.Need-returns Inv-loop μ-loop
+returns c = going-ends (rw (rest-none _ _ _ _ _ (c .before .before .before .before .pre .0 .0) (c .before .before .before .before .pre .0 .1) _ (c .loop-test .left)) at (c .before .loop .inv .1))
+
+pub put-lines-spec : {M : Type 1} → statement M
+put-lines-spec =
+    tie.close
+    (tie.spec
+    Inv-loop
+    μ-loop
+    loop-holds
+    add-put-line
+    mul-put-line
+    shared-slice-read-put-line
+    add-put-line-2
+    mul-put-line-2
+    shared-slice-read-put-line-2
+    put-line-requires
+    add-i
+    loop-less
+    loop-again
+    same-length
+    returns)

@@ -1,0 +1,96 @@
+// A text of frames, one to a line, read into the lent lists that stand for an image.
+ghost use Prim.Native.Nat.{_<_};
+ghost use lib.ListN.{length};
+ghost use Rattle.reading.specs.View.{Fit};
+ghost use Rattle.texts.specs.Texts.{Ends, LinePut, TextRead};
+use reading::state::Reading;
+
+// Where the line that begins at a place ends: at the next newline, or with the text.
+fn line_end(text: &[u8], from: usize) -> usize
+    requires { ⌜ from < length (now text) ⌝ }
+    ensures { λ r. ⌜ Ends (now (text .entry)) from r ⌝ }
+{
+    let mut i = from;
+    while i < text.len() {
+        if text[i] == 10 {
+            return i;
+        }
+        i += 1;
+    }
+    i
+}
+
+// One line put into the lists.
+fn read_line(
+    r: Reading,
+    line: &[u8],
+    sections: &mut [u32],
+    bytes: &mut [u8],
+    outcomes: &mut [u32],
+    functions: &mut [u32],
+    objects: &mut [u32],
+    skips: &mut [u32],
+    entry: &mut [u32],
+) -> Reading
+    requires { ⌜ Fit r (now sections) (now bytes) (now outcomes) (now functions) (now objects) (now skips) (now entry) ⌝ }
+    ensures { λ q. ⌜ LinePut (now (line .entry)) r q (now (sections .entry)) (now (sections .exit)) (now (bytes .entry)) (now (bytes .exit)) (now (outcomes .entry)) (now (outcomes .exit)) (now (functions .entry)) (now (functions .exit)) (now (objects .entry)) (now (objects .exit)) (now (skips .entry)) (now (skips .exit)) (now (entry .entry)) (now (entry .exit)) ⌝ }
+{
+    let f = frames::line::read_frame(line);
+    reading::put::put_frame(
+        r,
+        sections,
+        bytes,
+        outcomes,
+        functions,
+        objects,
+        skips,
+        entry,
+        f,
+    )
+}
+
+// The lines of a text put into the lists one after the other, up to the first that is no frame or does not belong there.
+pub fn read_image(
+    text: &[u8],
+    sections: &mut [u32],
+    bytes: &mut [u8],
+    outcomes: &mut [u32],
+    functions: &mut [u32],
+    objects: &mut [u32],
+    skips: &mut [u32],
+    entry: &mut [u32],
+) -> Reading
+    ensures { λ r. ⌜ TextRead (now (text .entry)) r (now (sections .entry)) (now (sections .exit)) (now (bytes .entry)) (now (bytes .exit)) (now (outcomes .entry)) (now (outcomes .exit)) (now (functions .entry)) (now (functions .exit)) (now (objects .entry)) (now (objects .exit)) (now (skips .entry)) (now (skips .exit)) (now (entry .entry)) (now (entry .exit)) ⌝ }
+{
+    let mut r = Reading {
+        ok: true,
+        sections: 0,
+        bytes: 0,
+        outcomes: 0,
+        functions: 0,
+        objects: 0,
+        skips: 0,
+        entry: 0,
+    };
+    let mut at: usize = 0;
+    while at < text.len() {
+        let end = line_end(text, at);
+        r = read_line(
+            r,
+            &text[at..end],
+            sections,
+            bytes,
+            outcomes,
+            functions,
+            objects,
+            skips,
+            entry,
+        );
+        if r.ok {
+            at = end + 1;
+        } else {
+            return r;
+        }
+    }
+    r
+}
