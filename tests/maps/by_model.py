@@ -102,6 +102,7 @@ def answer(model, lines):
 
 def main():
     model = load(sys.argv[1])
+    sys.stdin.reconfigure(newline='\n')     # a carriage return is a part of its line
     lines = []
     for line in sys.stdin:
         line = line[:-1] if line.endswith('\n') else line

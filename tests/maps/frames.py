@@ -54,8 +54,14 @@ def text(images):
     return ''.join(line + '\n' for lines in images for line in [*lines, '='])
 
 
-def parts(output):
-    """What stands before each line `=`, as text."""
-    each = ('\n' + output).split('\n=\n')
-    assert each.pop() == '', 'the last answer is not ended'
-    return [e.lstrip('\n') for e in each]
+def parts(text):
+    """The lines before each line `=`."""
+    each, lines = [], []
+    for line in text.split('\n'):
+        if line == '=':
+            each.append(lines)
+            lines = []
+        else:
+            lines.append(line)
+    assert lines == [''], 'the last part is not ended'
+    return each

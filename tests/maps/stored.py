@@ -30,7 +30,7 @@ SEEDS = (2026, 2027)
 
 def by_rust(oracle, images):
     run = subprocess.run([oracle, 'maps'], input=frames.text(images), stdout=subprocess.PIPE, stderr=subprocess.PIPE, text=True, check=True)
-    each = [part.split('\n') for part in frames.parts(run.stdout)]
+    each = frames.parts(run.stdout)
     assert len(each) == len(images)
     return each
 
