@@ -5,7 +5,10 @@
 //!     oracle map [--explain] < IMAGE       the map of an image in frames, by `AnalyzerState::detect_functions`: what `fmap` prints
 //!     oracle maps [--explain] < IMAGES     the same of many, each image and each answer ended by a line `=`: what `replay` prints
 //!     oracle time RUNS                     times `FunctionSlices::analyze` of 65,536 straight words: best and mean in nanoseconds
-#![allow(dead_code, unused, unreachable_pub, mismatched_lifetime_syntaxes)]
+//!     oracle bench RUNS                    times `detect_functions` on six images of 65,536 words; built for it (bench/map), the proved
+//!                                          library beside it
+//!     oracle sizes RUNS                    the same on 4,096 to 65,536 words and 16 to 1,024 functions
+#![allow(dead_code, unused, unexpected_cfgs, unreachable_pub, mismatched_lifetime_syntaxes)]
 
 mod analysis;
 mod obj;
@@ -16,6 +19,7 @@ mod faults;
 mod frames;
 mod lists;
 mod maps;
+mod timed;
 mod walks;
 
 use std::io::{Read, Write};
@@ -81,9 +85,11 @@ fn main() -> std::io::Result<()> {
         ["map", "--explain"] => map(true),
         ["maps"] => maps(false),
         ["maps", "--explain"] => maps(true),
+        ["bench", runs] => Ok(timed::images(runs.parse().expect("a number of runs"))),
+        ["sizes", runs] => Ok(timed::sizes(runs.parse().expect("a number of runs"))),
         ["time", runs] => Ok(time(runs.parse().expect("a number of runs"))),
         _ => {
-            eprintln!("usage: oracle walks [--explain] | map [--explain] | maps [--explain] | time RUNS");
+            eprintln!("usage: oracle walks [--explain] | map [--explain] | maps [--explain] | time RUNS | bench RUNS | sizes RUNS");
             std::process::exit(2);
         }
     }
