@@ -17,12 +17,12 @@ import sys
 sys.dont_write_bytecode = True
 import frames
 from frames import BSS, CODE, JUMP, LIST, TABLE
-from lists import DATA, ELSEWHERE, GO_ON, ILLEGAL, LINK, RETURN, RODATA, TO_ADDRESS, TO_TABLE, UNKNOWN, rows
+from lists import DATA, GO_ON, ILLEGAL, LINK, RETURN, RODATA, TO_ADDRESS, TO_TABLE, rows
 
 HERE = os.path.dirname(os.path.abspath(__file__))
 
 BLR, NOP, BEQ, BCTR, B, BL, ADDI = 0x4E800020, 0x60000000, 0x41820000, 0x4E800420, 0x48000000, 0x48000001, 0x38630001
-STWU, MFLR, MTLR, ADDI_R1, LWZ_R1 = 0x9421FFF0, 0x7C0802A6, 0x7C0803A6, 0x38210010, 0x80230000
+STWU, MFLR, LWZ_R1 = 0x9421FFF0, 0x7C0802A6, 0x80230000
 CODE_AT, DATA_AT = 0x1000, 0x8000
 
 # Longest images that are taken from other tests, in bytes.
@@ -259,7 +259,8 @@ def set_aside():
     keep('nothing but zero words', 0, Case(4).zero(*range(4)))
     keep('a symbol at a zero word', 0, Case(4).zero(2).returns(0, 1, 3).add(frames.symbol(frames.FUNCTION, 0x1008, 4, 1)))
     keep('a walk into a zero word', None, Case(5).zero(3).returns(0, 4).add(frames.entry(0x1004)))
-    keep('a walk into another function', None, Case(5).returns(0, 4).add(frames.symbol(frames.FUNCTION, 0x1004, 8, 1), frames.symbol(frames.FUNCTION, 0x100C, 8, 1)))
+    two = [frames.symbol(frames.FUNCTION, a, 8, 1) for a in (0x1004, 0x100C)]
+    keep('a walk into another function', None, Case(5).returns(0, 4).add(*two))
     for first, past in ((0, 1), (1, 2), (1, 3), (2, 4), (3, 6), (0, 6), (5, 6)):
         for zeros in ((), (1,), (1, 2), (2, 3)):
             c = Case(6).returns(*range(6)).zero(*zeros)
@@ -303,8 +304,8 @@ def no_frames():
                             ('a space behind it', line + ' '), ('a space within', line[:4] + ' ' + line[4:]), ('a letter that is none', line[:-1] + 'G'),
                             ('a carriage return', line + '\r'), ('another frame', '0A' + line[2:])):
             keep('line %d with %s' % (i, name), 1, whole[:i] + [other] + whole[i + 1:])
-    for name, line in (('an empty line', ''), ('a space', ' '), ('one digit', '0'), ('a frame without a field', '01'), ('frame 00', '00'), ('frame 10', '10'),
-                       ('frame FF', 'FF00001000'), ('two ends', '=='), ('a comment', '# 1'), ('a sign', '-1'), ('kind 00', '01000000200000000004'),
+    for name, line in (('an empty line', ''), ('a space', ' '), ('one digit', '0'), ('a frame without a field', '01'), ('frame 00', '00'),
+                       ('frame 10', '10'), ('frame FF', 'FF00001000'), ('two ends', '=='), ('a comment', '# 1'), ('a sign', '-1'), ('kind 00', '01000000200000000004'),
                        ('kind 05', '01050000200000000004'), ('outcome 07', '024E8000200700'), ('mark 02', '024E8000200302'),
                        ('a code word in short', '024E800020'), ('a target for a return', '0300001000'), ('a table for a return', '040000100000000004'),
                        ('a branch for a return', '05000000001000'), ('link 02', '05020000001000'), ('way 03', '05000300001000'),
@@ -317,7 +318,8 @@ def no_frames():
     keep('a word of bss', 1, good + ['01040000800000000004', '0200000000'])
     keep('a target behind the next section', 0, Case(1).lines()[:1] + ['02480000000400', '01020000800000000004', '0200001000', '0300001000'])
     keep('a target twice, the last one counts', 0, ['01010000100000000008', '02480000000400', '0300009000', '0300001000', '024E8000200300'])
-    keep('a table twice, the last one counts', None, ['01010000100000000008', '024E8004200500', '040000900000000004', '040000100000000000', '024E8000200300'])
+    keep('a table twice, the last one counts', None,
+         ['01010000100000000008', '024E8004200500', '040000900000000004', '040000100000000000', '024E8000200300'])
     keep('1,025 code words', 1, Case(1025).returns(1024))
     keep('1,024 code words, and a size of 1,025', 1, [l.replace('00001000', '00001004') for l in Case(1024).lines()[:1]] + Case(1024).lines()[1:])
     keep('an empty input', 1, [])
