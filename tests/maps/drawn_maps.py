@@ -12,9 +12,9 @@ import sys
 
 sys.dont_write_bytecode = True
 import frames
-from drawn import BLR, Drawn, filler
-from frames import BSS, CODE
-from lists import DATA, RETURN, RODATA
+from drawn import BLR, CONDITIONAL_BLR, NOP, RFI, Drawn, filler
+from frames import BSS, CODE, LIST
+from lists import ELSEWHERE, RETURN, TO_ADDRESS
 
 # Images that are made of one: the image itself and those with changes.
 TURNS = 8
@@ -32,6 +32,18 @@ class DrawnMap(Drawn):
         if self.r.random() < 0.35:
             self.entry_point()
         return self
+
+    def trailing(self):
+        """Behind a function that ends with `rfi` a `nop`, behind one that ends with a jump a `blr`, now and then: finalizing may add them."""
+        r = self.r
+        for at, n in self.functions:
+            last = self.words[at + n - 1]
+            if last == RFI and r.random() < 0.4:
+                self.put(at + n, NOP)
+            elif last >> 26 == 18 and r.random() < 0.15:
+                self.put(at + n, BLR, (RETURN,))
+                if n > 1 and r.random() < 0.5:
+                    self.put(at + n - 2, r.choice(CONDITIONAL_BLR), (LIST, [(TO_ADDRESS, self.at(at + n - 1)), (ELSEWHERE, 0)]))
 
     def skip_ranges(self):
         """Some ranges that ascend; each begins at a zero word, at the end of the last one or somewhere behind it."""
@@ -103,6 +115,7 @@ def drawn_image(r, most=1024):
         d = DrawnMap(r, min(n, r.randint(min(most, 24), most)))
         wild = r.choice((0.0, 0.0, 0.0, 0.2, 0.5, 1.0))
         d.code_of_functions(wild)
+        d.trailing()
     else:
         d, wild = DrawnMap(r, min(most, r.randint(2, 40))), 0.3
         d.code_of_noise()

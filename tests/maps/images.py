@@ -17,12 +17,12 @@ import sys
 sys.dont_write_bytecode = True
 import frames
 from frames import BSS, CODE, JUMP, LIST, TABLE
-from lists import DATA, GO_ON, ILLEGAL, LINK, RETURN, RODATA, TO_ADDRESS, TO_TABLE, rows
+from lists import DATA, ELSEWHERE, GO_ON, ILLEGAL, LINK, RETURN, RODATA, TO_ADDRESS, TO_TABLE, UNKNOWN, rows
 
 HERE = os.path.dirname(os.path.abspath(__file__))
 
 BLR, NOP, BEQ, BCTR, B, BL, ADDI = 0x4E800020, 0x60000000, 0x41820000, 0x4E800420, 0x48000000, 0x48000001, 0x38630001
-STWU, MFLR, LWZ_R1 = 0x9421FFF0, 0x7C0802A6, 0x80230000
+STWU, MFLR, LWZ_R1, RFI = 0x9421FFF0, 0x7C0802A6, 0x80230000, 0x4C000064
 CODE_AT, DATA_AT = 0x1000, 0x8000
 
 # Longest images that are taken from other tests, in bytes.
@@ -38,6 +38,10 @@ class Case:
         if data:
             self.section(DATA, DATA_AT, data)
         self.rest = []
+
+    def like(self, other):
+        self.words, self.behind, self.rest = list(other.words), list(other.behind), list(other.rest)
+        return self
 
     def at(self, i):
         return self.base + 4 * i
@@ -254,6 +258,32 @@ def tail_calls():
         keep('%d functions that jump to each other' % n, None, c)
 
 
+def finalizing():
+    """The last words that finalizing adds, or does not; 12, 13 and 17 are among the worked examples and the drawn images."""
+    known = lambda c, i: c.add(frames.symbol(frames.FUNCTION, c.at(i), 4, 1))
+    returns = lambda c, i: c.put(i, 0x4D820020, LIST, [(TO_ADDRESS, c.at(i + 1)), (ELSEWHERE, 0)])
+    rfi = lambda n: Case(n).put(0, RFI, UNKNOWN)
+    keep('rfi and nop', None, rfi(4).put(1, NOP).returns(2, 3))
+    keep('rfi and two nops', None, rfi(5).put(1, NOP).put(2, NOP).returns(3, 4))
+    keep('rfi and another word', None, rfi(4).returns(2, 3))
+    keep('rfi and nop, which has a symbol', None, known(rfi(4).put(1, NOP).returns(2, 3), 1))
+    keep('rfi and nop, the last word', None, rfi(2).put(1, NOP))
+    keep('rfi, the last word', None, rfi(1))
+    keep('rfi, nop and blr behind a conditional return', None, returns(Case(6), 0).put(1, RFI, UNKNOWN).put(2, NOP).returns(3, 4, 5))
+    for name, last, after in (('a return', (BLR, RETURN), BLR), ('a jump', None, BLR), ('a jump', None, ADDI), ('an unknown jump', (BCTR, UNKNOWN), BLR)):
+        c = returns(Case(8), 0)
+        c = c.put(1, *last) if last else c.jumps(1, 6)
+        c.put(2, after, RETURN).returns(3, 4, 5, 7)
+        keep('a conditional return, then %s, then %08x' % (name, after), None, c)
+        keep('a conditional return, then %s, then %08x with a symbol' % (name, after), None, known(Case(0).like(c), 2))
+        keep('the same with a symbol at the target, %s, %08x' % (name, after), None, known(Case(0).like(c), 6))
+    for word, name in ((B | 12, 'b'), (B | 16, 'b to another word'), (BCTR, 'bctr')):
+        c = known(Case(8).ways(0, 1, 2).returns(1, 3, 4, 6, 7).put(2, word, JUMP, CODE_AT + 20), 5)
+        keep('the last block ends with a jump to a function, by %s, and a way leads to it and another' % name, None, c)
+        c = known(Case(8).ways(0, 2).returns(1, 3, 4, 6, 7).put(2, word, JUMP, CODE_AT + 20), 5)
+        keep('the last block ends with a jump to a function, by %s, and one way leads to it' % name, None, c)
+
+
 def set_aside():
     keep('the first word is zero', 0, Case(3).zero(0).returns(1, 2))
     keep('nothing but zero words', 0, Case(4).zero(*range(4)))
@@ -418,7 +448,7 @@ def drawn():
                 keep('%d/%d' % (seed, k), first, drawn_of(seed, k))
 
 
-GROUPS = (('document 01', sample), ('the worked examples of tests/definitions', worked), ('limits', limits), ('tail calls', tail_calls),
+GROUPS = (('document 01', sample), ('the worked examples of tests/definitions', worked), ('limits', limits), ('tail calls', tail_calls), ('finalizing', finalizing),
           ('set aside, skip ranges, entry points', set_aside), ('sections', sections), ('lines that are no frames', no_frames),
           ('outcomes and entry points', outcomes), ('images of tests/checked', rules), ('images of tests/walked', walks), ('drawn', drawn))
 
