@@ -24,15 +24,19 @@ thread_local! {
 }
 
 /// How the Rust's own errors begin.
-const ERRORS: [(&str, u32); 8] = [
+const ERRORS: [(&str, u32); 12] = [
     ("Found multiple functions inside a symbol", 5),
     ("Found duplicate epilogue", 6),
     ("Conditional jump table unsupported", 7),
     ("Condition failed: `fn_addr != function_start`", 8),
     ("Invalid jump table entry", 9),
     ("Failed to finalize block @", 11),
+    ("Unpaired epilogue", 12),
+    ("Can't finalize function without known end", 13),
+    ("Overlapping functions", 14),
     ("Invalid address", 15),
     ("Already finalized", 17),
+    ("Failed to finalize functions", 17),
 ];
 
 fn of_error(e: &anyhow::Error) -> Fault {

@@ -1,6 +1,6 @@
 //! The lists that are lent for an image, in the text that the program `walked` reads (crates/walked/src/main.rt), and what the Rust is
-//! handed for them. The lists are taken to pass checks 1 to 3.
-use std::num::NonZeroU32;
+//! handed for them. The lists are taken to pass checks 1 to 3 (checks.rs has them).
+use std::{collections::BTreeMap, num::NonZeroU32};
 
 use crate::{
     analysis::{
@@ -19,13 +19,13 @@ pub struct Lists {
     pub outcomes: Vec<u32>,
     pub functions: Vec<u32>,
     pub objects: Vec<u32>,
+    pub skips: Vec<u32>,
+    pub entry: Vec<u32>,
     /// Entry and end of each known function, a section counted from 1 before each address.
     pub known: Vec<u32>,
     /// Start and end in the same way, then the length of the lent list.
     pub walks: Vec<u32>,
     pub bytes: Vec<u8>,
-    /// Skip ranges and the entry point, which no walk of one function reads.
-    pub unread: Vec<u32>,
 }
 
 /// A line's numbers, or its bytes, as often as the line says.
@@ -56,7 +56,8 @@ impl Lists {
             "j" => &mut self.objects,
             "n" => &mut self.known,
             "w" => &mut self.walks,
-            "k" | "e" => &mut self.unread,
+            "k" => &mut self.skips,
+            "e" => &mut self.entry,
             _ => return None,
         };
         repeated(list, numbers, count);
@@ -72,9 +73,9 @@ impl Lists {
         Some(lists)
     }
 
-    fn rows(list: &[u32], width: usize) -> impl Iterator<Item = &[u32]> { list.chunks_exact(width) }
+    pub fn rows(list: &[u32], width: usize) -> impl Iterator<Item = &[u32]> { list.chunks_exact(width) }
 
-    fn section_at(&self, address: u32) -> Option<u32> {
+    pub fn section_at(&self, address: u32) -> Option<u32> {
         let inside = |s: &[u32]| address >= s[1] && ((address - s[1]) as u64) < s[2] as u64;
         Self::rows(&self.sections, 4).position(inside).map(|i| i as u32)
     }
@@ -117,6 +118,13 @@ impl Lists {
         Feed { section, base, outcomes, steps: 0, fresh: 0 }
     }
 
+    /// Skip ranges as `AnalyzerState` has them.
+    pub fn skip_ranges(&self) -> BTreeMap<SectionAddress, SectionAddress> {
+        let (section, ..) = self.code();
+        let at = |a| SectionAddress::new(section, a);
+        Self::rows(&self.skips, 2).map(|s| (at(s[0]), at(s[1]))).collect()
+    }
+
     pub fn obj(&self) -> ObjInfo {
         let mut at = 0;
         let mut sections = vec![];
@@ -149,6 +157,9 @@ impl Lists {
         };
         let functions = Self::rows(&self.functions, 3).map(|s| symbol(s, ObjSymbolKind::Function));
         let objects = Self::rows(&self.objects, 3).map(|s| symbol(s, ObjSymbolKind::Object));
-        ObjInfo::new(ObjKind::Executable, ObjArchitecture::PowerPc, "image".into(), functions.chain(objects).collect(), sections)
+        let symbols = functions.chain(objects).collect();
+        let mut obj = ObjInfo::new(ObjKind::Executable, ObjArchitecture::PowerPc, "image".into(), symbols, sections);
+        obj.entry = self.entry.first().map(|&a| a as u64);
+        obj
     }
 }
