@@ -16,11 +16,11 @@ use Rattle.entry_changes.specs.Changed.{with-end, end-set}
 use Rattle.entry_changes.proofs.Adding.{put-there}
 
 -- where there is an answer, the entry is there
-abbrev There : ℕ → Answer (List Entry) → Type 0
+abbrev pub There : ℕ → Answer (List Entry) → Type 0
 There k (ok es) = has entryOf k es ≡ true
 There k (fault m) = Unit {0}
 
-add-there : (cap : Capacity) (k : ℕ) (es : List Entry) → There k (add-entry cap k es)
+pub add-there : (cap : Capacity) (k : ℕ) (es : List Entry) → There k (add-entry cap k es)
 unfolding add-entry limited
 add-there cap k es = by-if (There k) (has entryOf k es) (λ t. t) (λ _. by-if (There k) _ (λ _. put-there (new-entry k) es .1) (λ _. tt))
 
