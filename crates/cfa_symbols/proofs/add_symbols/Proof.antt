@@ -1,0 +1,69 @@
+use Prim.Native.Nat.{_-_}
+use mathlib.Core.Path.{sym, _∙_}
+use native.Mathlib.Omega.{arith}
+use lib.ListN.{length}
+use Rattle.cfa_symbols.proofs.Symbols.{Adding, adding-first, adding-ends, adding-inside, adding-stops, adding-on}
+use borrow.Author.Needs.{needs}
+use Rattle.cfa_symbols.proofs.add_symbols.Statement.{statement}
+use Rattle.cfa_symbols.proofs.add_symbols.Tie as tie
+
+abbrev Inv-loop : tie.InvT-loop
+Inv-loop functions known₀ infos₀ lists code room r₀ at₀ known infos r at = Adding functions code room lists at (r .count) known infos (r .fault)
+
+abbrev μ-loop : tie.MeasureT-loop
+μ-loop functions known₀ infos₀ lists code room r₀ at₀ known infos r at = length functions - at
+
+loop-holds : tie.Need-loop-holds Inv-loop μ-loop
+loop-holds c = adding-first _ _ _ _ _ _ (c .before .before .before .before .pre .1 .0) (c .before .before .before .before .pre .1 .1)
+
+symbol-at-requires : tie.Need-symbol-at-requires Inv-loop μ-loop
+symbol-at-requires c κs = adding-inside _ _ _ _ _ _ _ _ _ (c .before .loop .inv) (c .loop-test .taken) (c .before .before .before .before .before .before .pre .0 .whole)
+
+add-symbol-requires : tie.Need-add-symbol-requires Inv-loop μ-loop
+add-symbol-requires c κs = (c .before .before .before .before .loop .inv .good, c .before .before .before .before .before .before .before .before .before .pre .0 .low)
+
+same-length : tie.Need-same-length Inv-loop μ-loop
+same-length c = c .before .before .before .before .before .known .given ∙ c .before .before .before .before .before .before .before .before .before .before .before .loop .inv .good .holds .kept .size ∙ sym (c .before .before .before .before .before .before .before .before .before .before .before .before .before .before .before .before .pre .1 .0)
+
+same-length-2 : tie.Need-same-length-2 Inv-loop μ-loop
+same-length-2 c = c .before .before .before .infos .given ∙ c .before .before .before .before .before .before .before .before .before .before .before .loop .inv .good .holds .lent ∙ sym (c .before .before .before .before .before .before .before .before .before .before .before .before .before .before .before .before .pre .1 .1)
+
+returns : tie.Need-returns Inv-loop μ-loop
+returns c = adding-stops _ _ _ _ _ _ _ _ _ (c .before .before .before .before .before .before .before .before .before .before .before .loop .inv) (c .before .before .before .before .before .before .before .before .before .before .loop-test .taken) (c .before .before .before .before .before .before .before .before .before .before .before .before .before .before .before .before .pre .0 .whole) _ (c .before .before .before .before .before .before .before .before .before .symbol-at .ensures) _ _ _ _ (c .before .before .before .before .before .before .add-symbol .ensures) (c .if1 .taken)
+
+add-at : tie.Need-add-at Inv-loop μ-loop
+add-at c = search needs
+
+loop-less : tie.Need-loop-less Inv-loop μ-loop
+loop-less c = let h = c .before .before .before .before .before .before .before .before .before .before .loop-test .taken in omega (arith, h)
+
+loop-again : tie.Need-loop-again Inv-loop μ-loop
+loop-again c = adding-on _ _ _ _ _ _ _ _ _ (c .before .before .before .before .before .before .before .before .before .before .before .loop .inv) (c .before .before .before .before .before .before .before .before .before .before .loop-test .taken) (c .before .before .before .before .before .before .before .before .before .before .before .before .before .before .before .before .pre .0 .whole) _ (c .before .before .before .before .before .before .before .before .before .symbol-at .ensures) _ _ _ _ (c .before .before .before .before .before .before .add-symbol .ensures) (c .before .before .before .before .before .before .before .before .before .before .before .before .before .before .before .before .pre .0) (c .if1 .left)
+
+same-length-3 : tie.Need-same-length-3 Inv-loop μ-loop
+same-length-3 c = c .before .loop .inv .good .holds .kept .size ∙ sym (c .before .before .before .before .before .before .pre .1 .0)
+
+same-length-4 : tie.Need-same-length-4 Inv-loop μ-loop
+same-length-4 c = c .before .loop .inv .good .holds .lent ∙ sym (c .before .before .before .before .before .before .pre .1 .1)
+
+returns-2 : tie.Need-returns-2 Inv-loop μ-loop
+returns-2 c = adding-ends _ _ _ _ _ _ _ _ _ (c .before .loop .inv) (c .loop-test .left)
+
+pub add-symbols-spec : {M : Type 1} → statement M
+add-symbols-spec =
+    tie.close
+    (tie.spec
+    Inv-loop
+    μ-loop
+    loop-holds
+    symbol-at-requires
+    add-symbol-requires
+    same-length
+    same-length-2
+    returns
+    add-at
+    loop-less
+    loop-again
+    same-length-3
+    same-length-4
+    returns-2)

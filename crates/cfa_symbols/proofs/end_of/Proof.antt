@@ -1,0 +1,25 @@
+use Rattle.cfa_symbols.proofs.Symbols.{end-known, end-none}
+use borrow.Author.Needs.{needs}
+use Rattle.cfa_symbols.proofs.end_of.Statement.{statement}
+use Rattle.cfa_symbols.proofs.end_of.Tie as tie
+
+wide-requires : tie.Need-wide-requires
+wide-requires c κs = search needs
+
+add-result : tie.Need-add-result
+add-result c = search needs
+
+returns : tie.Need-returns
+returns c = end-known _ _ _ _ (c .before .if1 .taken) (c .wide .ensures .0)
+
+returns-2 : tie.Need-returns-2
+returns-2 c = end-none _ _ _ (c .if1 .left)
+
+pub end-of-spec : {M : Type 1} → statement M
+end-of-spec =
+    tie.close
+    (tie.spec
+    wide-requires
+    add-result
+    returns
+    returns-2)
