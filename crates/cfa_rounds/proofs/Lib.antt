@@ -1,0 +1,4 @@
+pub mod Answers
+pub mod Rounding
+pub mod Steps
+pub mod Turns
