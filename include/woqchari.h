@@ -45,7 +45,8 @@ enum {
                 references;
                 addresses of jump tables, then their sizes;
                 possible blocks.
-   counts     2 numbers: how many entries there are, and how many numbers of `lists` they take.
+   entries    one number: how many entries there are.
+   numbers    one number: how many numbers of `lists` they take.
 
    The lists may have any length; behind the map they are zero. */
 enum {
@@ -85,7 +86,7 @@ uint32_t woqchari_detect_functions(const uint32_t *sections, size_t sections_len
                                    const uint32_t *outcomes, size_t outcomes_len, const uint32_t *functions, size_t functions_len,
                                    const uint32_t *objects, size_t objects_len, const uint32_t *skips, size_t skips_len,
                                    const uint32_t *entry, size_t entry_len, uint64_t *rows, size_t rows_len, uint64_t *lists,
-                                   size_t lists_len, uint64_t *counts, size_t counts_len);
+                                   size_t lists_len, size_t *entries, size_t *numbers);
 
 #ifdef __cplusplus
 }

@@ -46,7 +46,8 @@ static const uint32_t none[1];
 #define LENGTH(list) (sizeof(list) / sizeof *(list))
 
 enum { ENTRIES = 1024, NUMBERS = 131072 };
-static uint64_t rows[WOQCHARI_ROW * ENTRIES], lists[NUMBERS], counts[2];
+static uint64_t rows[WOQCHARI_ROW * ENTRIES], lists[NUMBERS];
+static size_t entries, numbers;
 
 /* An address, or - for none. */
 static const char *printed(char *text, uint64_t key) {
@@ -87,11 +88,11 @@ int main(void) {
     for (size_t i = 0; i < sizeof bytes; i++) bytes[i] = (uint8_t)(words[i / 4] >> (24 - 8 * (i % 4)));
     uint32_t number = woqchari_detect_functions(sections, LENGTH(sections), bytes, sizeof bytes, outcomes, LENGTH(outcomes), functions,
                                                 LENGTH(functions), none, 0, none, 0, entry, LENGTH(entry), rows, LENGTH(rows), lists,
-                                                LENGTH(lists), counts, LENGTH(counts));
+                                                LENGTH(lists), &entries, &numbers);
     printf("R %02" PRIu32 "\n", number);
     if (number != 0) return 1;
     const uint64_t *list = lists;
-    for (uint64_t i = 0; i < counts[0]; i++) {
+    for (size_t i = 0; i < entries; i++) {
         const uint64_t *row = rows + WOQCHARI_ROW * i;
         if (row[WOQCHARI_FLAGS] & WOQCHARI_HAS_LISTS) list = print_function(row, list);
         else print_address('N', row[WOQCHARI_ENTRY]);

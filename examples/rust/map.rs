@@ -13,7 +13,7 @@ mod woqchari {
             entry: *const u32, entry_len: usize,
             rows: *mut u64, rows_len: usize,
             lists: *mut u64, lists_len: usize,
-            counts: *mut u64, counts_len: usize,
+            entries: *mut usize, numbers: *mut usize,
         ) -> u32;
     }
 
@@ -78,7 +78,7 @@ mod woqchari {
     /// The map, or the number of the rule that is broken or the fault that was met.
     pub fn detect_functions(image: &Image, entries: usize, numbers: usize) -> Result<Map, u32> {
         let mut map = Map { rows: vec![0; 10 * entries], lists: vec![0; numbers] };
-        let mut counts = [0; 2];
+        let (mut entries, mut numbers) = (0, 0);
         // SAFETY: each pointer is that of a slice with its own length, and the lists that are written are three of their own.
         let number = unsafe {
             woqchari_detect_functions(
@@ -91,14 +91,14 @@ mod woqchari {
                 image.entry.as_ptr(), image.entry.len(),
                 map.rows.as_mut_ptr(), map.rows.len(),
                 map.lists.as_mut_ptr(), map.lists.len(),
-                counts.as_mut_ptr(), counts.len(),
+                &mut entries, &mut numbers,
             )
         };
         if number != 0 {
             return Err(number);
         }
-        map.rows.truncate(10 * counts[0] as usize);
-        map.lists.truncate(counts[1] as usize);
+        map.rows.truncate(10 * entries);
+        map.lists.truncate(numbers);
         Ok(map)
     }
 }

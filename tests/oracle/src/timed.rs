@@ -148,18 +148,19 @@ mod ours {
             entry: *const u32, entry_len: usize,
             rows: *mut u64, rows_len: usize,
             lists: *mut u64, lists_len: usize,
-            counts: *mut u64, counts_len: usize,
+            entries: *mut usize, numbers: *mut usize,
         ) -> u32;
     }
 
     pub struct Room {
         pub rows: Vec<u64>,
         pub lists: Vec<u64>,
-        pub counts: [u64; 2],
+        pub entries: usize,
+        pub numbers: usize,
     }
 
     impl Room {
-        pub fn new() -> Self { Self { rows: vec![0; 10 * 1024], lists: vec![0; 131_072], counts: [0; 2] } }
+        pub fn new() -> Self { Self { rows: vec![0; 10 * 1024], lists: vec![0; 131_072], entries: 0, numbers: 0 } }
 
         pub fn run(&mut self, l: &Lists) -> u128 {
             let from = Instant::now();
@@ -174,7 +175,7 @@ mod ours {
                     l.entry.as_ptr(), l.entry.len(),
                     self.rows.as_mut_ptr(), self.rows.len(),
                     self.lists.as_mut_ptr(), self.lists.len(),
-                    self.counts.as_mut_ptr(), self.counts.len(),
+                    &mut self.entries, &mut self.numbers,
                 )
             };
             let took = from.elapsed().as_nanos();
