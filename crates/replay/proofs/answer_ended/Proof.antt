@@ -1,0 +1,81 @@
+use mathlib.Core.Path.{_≡_}
+use Prim.Native.Nat.{_≤_, _-_}
+use native.Mathlib.Omega.{arith}
+use lib.ListN.{length}
+use Rattle.replay.proofs.Marking.{mark-inside}
+use borrow.Author.Needs.{needs}
+use Rattle.replay.proofs.answer_ended.Statement.{statement}
+use Rattle.replay.proofs.answer_ended.Tie as tie
+
+abbrev Inv-loop : tie.InvT-loop
+Inv-loop text out₀ at₀ out at = (at ≤ length text) × (length out ≡ 1489000)
+
+abbrev μ-loop : tie.MeasureT-loop
+μ-loop text out₀ at₀ out at = length text - at
+
+loop-holds : tie.Need-loop-holds Inv-loop μ-loop
+loop-holds c = search needs
+
+sub-next-mark : tie.Need-sub-next-mark Inv-loop μ-loop
+sub-next-mark c = search needs
+
+part-next-mark-start : tie.Need-part-next-mark-start Inv-loop μ-loop
+part-next-mark-start c = search needs
+
+part-next-mark-end : tie.Need-part-next-mark-end Inv-loop μ-loop
+part-next-mark-end c = search needs
+
+next-mark-requires : tie.Need-next-mark-requires Inv-loop μ-loop
+next-mark-requires c κs = search needs
+
+add-end : tie.Need-add-end Inv-loop μ-loop
+add-end c = search needs
+
+sub-answer : tie.Need-sub-answer Inv-loop μ-loop
+sub-answer c = search needs
+
+part-answer-start : tie.Need-part-answer-start Inv-loop μ-loop
+part-answer-start c = search needs
+
+part-answer-end : tie.Need-part-answer-end Inv-loop μ-loop
+part-answer-end c = search needs
+
+answer-requires : tie.Need-answer-requires Inv-loop μ-loop
+answer-requires c κs = search needs
+
+add-at : tie.Need-add-at Inv-loop μ-loop
+add-at c = search needs
+
+loop-less : tie.Need-loop-less Inv-loop μ-loop
+loop-less c = search needs
+
+loop-again : tie.Need-loop-again Inv-loop μ-loop
+loop-again c = (mark-inside (c .before .before .before .before .before .before .before .before .before .args .text .now) (c .before .before .before .before .before .before .before .loop .at) (c .before .before .before .before .before .before .before .loop .inv .0) _ (c .before .before .before .before .next-mark .ensures) (c .before .before .before .if1 .taken), c .answer .ensures)
+
+returns : tie.Need-returns Inv-loop μ-loop
+returns c = search needs
+
+returns-2 : tie.Need-returns-2 Inv-loop μ-loop
+returns-2 c = search needs
+
+pub answer-ended-spec : {M : Type 1} → statement M
+answer-ended-spec =
+    tie.close
+    (tie.spec
+    Inv-loop
+    μ-loop
+    loop-holds
+    sub-next-mark
+    part-next-mark-start
+    part-next-mark-end
+    next-mark-requires
+    add-end
+    sub-answer
+    part-answer-start
+    part-answer-end
+    answer-requires
+    add-at
+    loop-less
+    loop-again
+    returns
+    returns-2)

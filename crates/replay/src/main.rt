@@ -1,0 +1,184 @@
+// Prints the map of each image of its input as `fmap` prints it, and a line `=` behind each.
+//
+// A line `=` ends an image. What stands behind the last such line is an image too if it is not empty. An image of 1,048,576 bytes or more
+// is refused by R 01, as `fmap` refuses it.
+mod cutting;
+
+ghost use mathlib.Core.Path.{_≡_};
+ghost use Prim.Native.Nat.{_<_, _≤_};
+ghost use lib.ListN.{length};
+
+// Room for the longest image, and for 65,536 bytes more.
+type Text = [u8; 1114112];
+
+// Room for the longest text of a map.
+type Out = [u8; 1489000];
+
+// How many bytes of the input stand at the text's front, and whether there may be more to read.
+struct Read {
+    n: usize,
+    more: bool,
+}
+
+// ---- answers
+
+// The text of an image's map, and how long it is.
+fn map_one(image: &[u8], out: &mut Out) -> usize
+    requires { ⌜ length (now out) ≡ 1489000 ⌝ }
+    ensures { λ r. ⌜ length (now (out .exit)) ≡ 1489000 ⌝ }
+{
+    if image.len() < 1048576 {
+        return mapping::map_image(image, out);
+    }
+    printing::put_refusal(1, out)
+}
+
+// The first n bytes to standard output.
+fn write_text(out: &Out, n: usize) {
+    let all: &[u8] = out;
+    if n <= all.len() {
+        io::write_all(1, &all[0..n]);
+    }
+}
+
+fn answer(image: &[u8], out: &mut Out)
+    requires { ⌜ length (now out) ≡ 1489000 ⌝ }
+    ensures { λ r. ⌜ length (now (out .exit)) ≡ 1489000 ⌝ }
+{
+    let n = map_one(image, out);
+    write_text(out, n);
+    io::write_all(1, b"=\n");
+}
+
+// Answers each image that a line `=` ends. Where the text behind the last such line begins.
+fn answer_ended(text: &[u8], out: &mut Out) -> usize
+    requires { ⌜ length (now out) ≡ 1489000 ⌝ }
+    ensures { λ r. ⌜ (r ≤ length (now (text .entry))) × (length (now (out .exit)) ≡ 1489000) ⌝ }
+{
+    let mut at: usize = 0;
+    while at < text.len() {
+        let end = at + cutting::next_mark(&text[at..]);
+        if end < text.len() {
+            answer(&text[at..end], out);
+            at = end + 2;
+        } else {
+            return at;
+        }
+    }
+    at
+}
+
+// ---- the text that is read
+
+// The bytes from a place up to another one moved to the text's front.
+fn move_down(text: &mut [u8], at: usize, n: usize)
+    requires { ⌜ (at ≤ n) × (n ≤ length (now text)) ⌝ }
+{
+    let mut i: usize = 0;
+    while i < n - at {
+        text[i] = text[at + i];
+        i += 1;
+    }
+}
+
+// What is left of the text behind the images that were answered, at its front. Too much for an image is refused whatever comes; it is cut
+// down to a line that is no frame, which is refused too, and the last two bytes, with which a line `=` may begin.
+fn keep_rest(text: &mut [u8], at: usize, n: usize) -> usize
+    requires { ⌜ (at ≤ n) × (n ≤ length (now text)) ⌝ }
+    ensures { λ r. ⌜ r ≤ 1048576 ⌝ }
+{
+    if n - at < 1048576 {
+        move_down(text, at, n);
+        return n - at;
+    }
+    let a = text[n - 2];
+    let b = text[n - 1];
+    text[0] = b'?';
+    text[1] = a;
+    text[2] = b;
+    3
+}
+
+// Standard input read behind the first n bytes, to its end or as far as there is room; how many bytes there are then.
+fn fill(text: &mut [u8], n: usize) -> usize
+    requires { ⌜ n ≤ length (now text) ⌝ }
+    ensures { λ r. ⌜ r ≤ length (now (text .exit)) ⌝ }
+{
+    let got = io::read_full(0, &mut text[n..]);
+    n + got
+}
+
+// ---- all of it
+
+// More of the input, and the images in it that are ended answered.
+fn replay_more(text: &mut [u8], out: &mut Out, n: usize) -> Read
+    requires { ⌜ (length (now text) ≡ 1114112) × (length (now out) ≡ 1489000) × (n ≤ 1048576) ⌝ }
+    ensures { λ r. ⌜ (length (now (out .exit)) ≡ 1489000) × (r .n ≤ 1048576) ⌝ }
+{
+    let m = fill(text, n);
+    if m == n {
+        return Read { n, more: false };
+    }
+    let at = answer_ended(&text[0..m], out);
+    let rest = keep_rest(text, at, m);
+    Read {
+        n: rest,
+        more: true,
+    }
+}
+
+// A newline behind a last byte `=`, so that this may be a line `=` too.
+fn end_line(text: &mut [u8], n: usize) -> usize
+    requires { ⌜ n < length (now text) ⌝ }
+    ensures { λ r. ⌜ r ≤ length (now (text .exit)) ⌝ }
+{
+    if n == 0 {
+        return n;
+    }
+    if text[n - 1] == b'=' {
+        text[n] = b'\n';
+        return n + 1;
+    }
+    n
+}
+
+// The last n bytes of the input.
+fn replay_last(text: &mut [u8], out: &mut Out, n: usize)
+    requires { ⌜ (n < length (now text)) × (length (now out) ≡ 1489000) ⌝ }
+{
+    let m = end_line(text, n);
+    let at = answer_ended(&text[0..m], out);
+    if at < m {
+        answer(&text[at..m], out);
+    }
+}
+
+fn replay_all(text: &mut [u8], out: &mut Out)
+    requires { ⌜ (length (now text) ≡ 1114112) × (length (now out) ≡ 1489000) ⌝ }
+{
+    let mut r = Read { n: 0, more: true };
+    // Nothing says that the input ends; a million turns are 65 gigabytes.
+    let mut turn: usize = 0;
+    while turn < 1000000 {
+        r = replay_more(text, out, r.n);
+        if r.more {
+            turn += 1;
+        } else {
+            turn = 1000000;
+        }
+    }
+    replay_last(text, out, r.n);
+}
+
+// The arrays are made slices here.
+fn replay_in_arrays(text: &mut Text, out: &mut Out)
+    requires { ⌜ (length (now text) ≡ 1114112) × (length (now out) ≡ 1489000) ⌝ }
+{
+    replay_all(text, out);
+}
+
+fn main() {
+    let mut text: Text = [0; 1114112];
+    let mut out: Out = [0; 1489000];
+    replay_in_arrays(&mut text, &mut out);
+}
