@@ -1,9 +1,8 @@
 -- What is printed of an answer, and of the lists that a text came to.
-use mathlib.Core.Path.{_≡_, refl, sym, ap, _∙_}
+use mathlib.Core.Path.{_≡_, refl, sym, ap}
 use mathlib.Core.Bool.{true, false}
 use mathlib.Core.List.{List, [], _∷_}
 use mathlib.Core.Logic.{_⊎_, inl, inr}
-use mathlib.Core.Option.{none, some}
 use Prim.Native.Nat.{ℕ, _+_, _*_, _-_, _/_, _<_, _≤_}
 use native.Mathlib.Omega.{arith}
 use lib.ListN.{length, take, drop, replicate, length-append, length-replicate}
@@ -22,7 +21,7 @@ use Rattle.entries.proofs.Rows.{row-long}
 use Rattle.results.specs.Rows.{result-row}
 use Rattle.reading.specs.View.{view, room}
 use Rattle.reading.specs.declared.state.Reading.{Reading}
-use Rattle.texts.specs.Texts.{TextRead, read-text}
+use Rattle.texts.specs.Texts.{TextRead}
 use Rattle.printing.specs.Rows.{Tells, Telling}
 use Rattle.printing.specs.Told.{Begun}
 use Rattle.printing.proofs.Maps.{results-tell}

@@ -23,8 +23,8 @@ answer (some l) cap = run (given l) cap
 unfoldable pub map-text : Room → Capacity → List ℕ → List ℕ
 map-text m cap t = text (lines (answer (read-text m t) cap))
 
--- the room that `fmap` has: each list of an image as long as its rule allows and one row more, where it is told by rows; code of 1,024
--- words; bytes of all sections together
+-- the room that `fmap` has: a row more than the rules allow of sections, symbols, skip ranges and entry points; 1,024 code words; the bytes
+-- of all sections together
 abbrev pub image-room : Room
 image-room =
     record { sections = 36; bytes = 393216; outcomes = 6144; functions = 3075; objects = 3075; skips = 130; entry = 2 }

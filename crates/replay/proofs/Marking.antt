@@ -50,9 +50,6 @@ module _ (t : List ℕ) (at : ℕ) (h : at ≤ length t) (m : ℕ) (n : NextMark
   tail-long : length (take (length t - at) (drop at t)) ≡ length t - at
   tail-long = let e : length (drop at t) ≡ length t - at = length-drop at t in length-take-le (length t - at) (drop at t) (omega arith)
 
-  pub mark-within : at + m ≤ length t
-  mark-within = omega (arith, n .within, tail-long)
-
   -- its two bytes are within the text
   pub mark-inside : at + m < length t → at + m + 2 ≤ length t
   mark-inside k = let e : m < length (take (length t - at) (drop at t)) = omega (arith, tail-long) in omega (arith, n .here e .inside, tail-long)

@@ -1,5 +1,4 @@
 use Rattle.mapping.proofs.Answers.{zeros-sized}
-use borrow.Author.Needs.{needs}
 use Rattle.mapping.proofs.map_image.Statement.{statement}
 use Rattle.mapping.proofs.map_image.Tie as tie
 

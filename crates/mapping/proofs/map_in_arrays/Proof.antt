@@ -1,5 +1,4 @@
 use Rattle.mapping.proofs.Answers.{room-enough, in-room}
-use borrow.Author.Needs.{needs}
 use Rattle.mapping.proofs.map_in_arrays.Statement.{statement}
 use Rattle.mapping.proofs.map_in_arrays.Tie as tie
 

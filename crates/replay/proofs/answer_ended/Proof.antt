@@ -1,6 +1,5 @@
 use mathlib.Core.Path.{_≡_}
 use Prim.Native.Nat.{_≤_, _-_}
-use native.Mathlib.Omega.{arith}
 use lib.ListN.{length}
 use Rattle.replay.proofs.Marking.{mark-inside}
 use borrow.Author.Needs.{needs}
