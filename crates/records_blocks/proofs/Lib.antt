@@ -1,0 +1,9 @@
+pub mod Turns
+pub mod Rows
+pub mod Tests
+pub mod Reached
+pub mod Again
+pub mod Lists
+pub mod Changes
+pub mod Calls
+pub mod Given
