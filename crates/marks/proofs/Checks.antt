@@ -81,7 +81,7 @@ module _ (s e : ℕ) where
               go (yes l) = le-leb s m (omega arith) ∙ sym (lt-ltb s e l)
               go (no l) = lt-leb s m (omega arith) ∙ sym (le-ltb s e (omega arith))
 
-above-from : (k : ℕ) (l : List Block) → starts-above k l ≡ starts-from (k + 1) l
+pub above-from : (k : ℕ) (l : List Block) → starts-above k l ≡ starts-from (k + 1) l
 above-from k [] = refl
 above-from k (r ∷ l) = by (decLt k (r .start))
   where

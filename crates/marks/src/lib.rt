@@ -12,7 +12,7 @@ use blocks::Step;
 use blocks::add_block_start;
 
 // Whether start and end are multiples of 4, and a closed end lies above its start.
-fn is_block(start: u64, end: u64) -> bool
+pub fn is_block(start: u64, end: u64) -> bool
     ensures { λ r. ⌜ r ≡ is-block (block start end) ⌝ }
     ensures { λ r. ⌜ (r ≡ true → start + 1 < 18446744073709551616) ⌝ }
 {

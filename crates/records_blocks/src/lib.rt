@@ -16,9 +16,9 @@ pub struct Block {
 }
 
 // Whether all blocks so far may stand in a table, and what the next start must then reach.
-pub struct Check {
-    pub least: u64,
-    pub sound: bool,
+struct Check {
+    least: u64,
+    sound: bool,
 }
 
 // One more block.
@@ -43,22 +43,22 @@ fn check_next(k: Check, b: Block) -> Check
 
 // What a sweep carries from one block to the next. Mode 0: it looks for addr. 1: it has found its place. 3: from `at` on it moves each
 // block up by one. 4: it puts `hold` at `at`.
-pub struct Carry {
+struct Carry {
     // what is written back
-    pub out: Block,
+    out: Block,
     // what comes next
-    pub hold: Block,
-    pub addr: u64,
+    hold: Block,
+    addr: u64,
     // the place of addr, and whether a block starts there
-    pub at: usize,
-    pub hit: bool,
+    at: usize,
+    hit: bool,
     // the end of the block before the place
-    pub below: u64,
+    below: u64,
     // whether the block at `last` is to end at addr
-    pub cut: bool,
-    pub last: usize,
-    pub mode: u8,
-    pub check: Check,
+    cut: bool,
+    last: usize,
+    mode: u8,
+    check: Check,
 }
 
 // One block of a sweep, which is checked already.
@@ -147,10 +147,10 @@ pub struct Done {
 }
 
 // A sweep over the first n blocks, and what is answered after it.
-pub struct Plan {
-    pub carry: Carry,
-    pub n: usize,
-    pub done: Done,
+struct Plan {
+    carry: Carry,
+    n: usize,
+    done: Done,
 }
 
 // A sweep that checks count blocks and looks for addr; over none where there are fewer.

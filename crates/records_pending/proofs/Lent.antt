@@ -1,7 +1,7 @@
--- The array of a lent record of pending addresses: taken out of the record's cell, lent for a lifetime of a call under a name δ, and put back.
+-- The array of a lent record of pending addresses: taken out of the record's cell, so that it can be lent, and put back.
 --     items-is, count-fits   what whoever holds a record knows of its fields;  made   what closing the borrow asks
 --     apart                  the record's cell  ⊢  the array where it lies ∗ Back
---     together               [†ν] ∗ what was lent ∗ what δ is at last ∗ Back  ⊢ ⇛  the record's cell with the list that δ is at last
+--     together               the array where it lies, holding ys ∗ Back  ⊢  the record's cell with ys, and what is known of ys
 use mathlib.Core.Path.{refl, sym, subst}
 use Prim.Native.Nat.{ℕ, _+_, _<_, _^_}
 use mathlib.Core.List.{[], _∷_, List, map-id}

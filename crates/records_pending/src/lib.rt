@@ -26,9 +26,9 @@ fn insert(a: &mut [u64; 256], n: usize, addr: u64)
     a[k] = addr;
 }
 
-pub struct Added {
-    pub count: usize,
-    pub done: bool,
+struct Added {
+    count: usize,
+    done: bool,
 }
 
 // The work of push, on the array and the count.
@@ -55,9 +55,9 @@ pub enum Popped {
     Empty,
 }
 
-pub struct Taken {
-    pub count: usize,
-    pub top: Popped,
+struct Taken {
+    count: usize,
+    top: Popped,
 }
 
 // The work of pop, on the array and the count.

@@ -1,0 +1,49 @@
+use Prim.Native.Nat.{_≤_, _-_}
+use borrow.Author.Needs.{needs}
+use Rattle.records.proofs.sum_of_list.Statement.{statement}
+use Rattle.records.proofs.sum_of_list.Tie as tie
+
+abbrev Inv-loop : tie.InvT-loop
+Inv-loop p h₀ i₀ h i = i ≤ 256
+
+abbrev μ-loop : tie.MeasureT-loop
+μ-loop p h₀ i₀ h i = 256 - i
+
+loop-holds : tie.Need-loop-holds Inv-loop μ-loop
+loop-holds c = search needs
+
+mul-mix : tie.Need-mul-mix Inv-loop μ-loop
+mul-mix c = search needs
+
+array-read-mix : tie.Need-array-read-mix Inv-loop μ-loop
+array-read-mix c = search needs
+
+mix-requires : tie.Need-mix-requires Inv-loop μ-loop
+mix-requires c κs = search needs
+
+add-i : tie.Need-add-i Inv-loop μ-loop
+add-i c = search needs
+
+loop-less : tie.Need-loop-less Inv-loop μ-loop
+loop-less c = search needs
+
+loop-again : tie.Need-loop-again Inv-loop μ-loop
+loop-again c = search needs
+
+returns : tie.Need-returns Inv-loop μ-loop
+returns c = search needs
+
+pub sum-of-list-spec : {M : Type 1} → statement M
+sum-of-list-spec =
+    tie.close
+    (tie.spec
+    Inv-loop
+    μ-loop
+    loop-holds
+    mul-mix
+    array-read-mix
+    mix-requires
+    add-i
+    loop-less
+    loop-again
+    returns)

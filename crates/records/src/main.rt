@@ -1,0 +1,649 @@
+// Marks, cuts, pushes and pops through lent records and through the core, and prints the answers of both.
+//
+// The input has an operation on each line: a letter, and numbers in hexadecimal.
+//
+//   m ADDR        the address is marked
+//   c ADDR        the block that reaches over the address is cut. The core has no cut of its own: it marks where one was made
+//   r START END   a row is put behind the last, whatever it holds
+//   n COUNT       there are so many blocks, whatever the rows hold
+//   z             an empty table
+//   p ADDR        the address is pushed
+//   o             the highest address is popped
+//   q COUNT       so many addresses are pending, whatever they are
+//
+// Printed are after m and c, for the records and then for the core: the number, 1 for yes or 0, the count, and a sum over all rows;
+// after p and o: the address that was popped or 0, 1 for yes or 0, the count, and a sum over all addresses. The last line has how many
+// operations the two disagreed about.
+ghost use mathlib.Core.Path.{_≡_};
+ghost use Rattle.records_blocks.specs.Records.{mark-records, cut-records, list-of, IsDone};
+ghost use Rattle.records_pending.specs.Record.{IsPushed, IsPopped};
+use marks::Marking;
+use records_blocks::Block;
+use records_blocks::Done;
+use records_pending::Pending;
+use records_pending::Popped;
+
+// Pending addresses after a push.
+pub struct Pushed {
+    pub list: Pending,
+    pub done: bool,
+}
+
+// Pending addresses after a pop.
+pub struct Took {
+    pub list: Pending,
+    pub top: Popped,
+}
+
+// Records lent for a call, by value: the table and the answer of a mark or a cut, the list and the answer of a push or a pop.
+fn mark_table(t: [Block; 260], count: usize, addr: u64) -> [Block; 260]
+    ensures { λ r. ⌜ r ≡ list-of t (mark-records count addr t) ⌝ }
+{
+    let mut q = t;
+    records_blocks::mark(&mut q, count, addr);
+    q
+}
+
+fn mark_done(t: [Block; 260], count: usize, addr: u64) -> Done
+    ensures { λ r. ⌜ IsDone (mark-records count addr t) count t (list-of t (mark-records count addr t)) r ⌝ }
+{
+    let mut q = t;
+    records_blocks::mark(&mut q, count, addr)
+}
+
+fn cut_table(t: [Block; 260], count: usize, addr: u64) -> [Block; 260]
+    ensures { λ r. ⌜ r ≡ list-of t (cut-records count addr t) ⌝ }
+{
+    let mut q = t;
+    records_blocks::cut(&mut q, count, addr);
+    q
+}
+
+fn cut_done(t: [Block; 260], count: usize, addr: u64) -> Done
+    ensures { λ r. ⌜ IsDone (cut-records count addr t) count t (list-of t (cut-records count addr t)) r ⌝ }
+{
+    let mut q = t;
+    records_blocks::cut(&mut q, count, addr)
+}
+
+fn push_in(p: Pending, addr: u64) -> Pushed
+    ensures { λ r. ⌜ IsPushed p addr (r .list) (r .done) ⌝ }
+{
+    let mut q = p;
+    let done = records_pending::push(&mut q, addr);
+    Pushed { list: q, done }
+}
+
+fn pop_in(p: Pending) -> Took
+    ensures { λ r. ⌜ IsPopped p (r .list) (r .top) ⌝ }
+{
+    let mut q = p;
+    let top = records_pending::pop(&mut q);
+    Took { list: q, top }
+}
+
+// The table in both forms, and how often they disagreed.
+struct Tables {
+    records: [Block; 260],
+    count: usize,
+    starts: [u64; 260],
+    ends: [u64; 260],
+    blocks: usize,
+    apart: u64,
+}
+
+// The list in both forms, and how often they disagreed.
+struct Lists {
+    addresses: [u64; 256],
+    count: usize,
+    keys: [u64; 2176],
+    pending: usize,
+    apart: u64,
+}
+
+fn no_blocks(apart: u64) -> Tables {
+    let z = Block { start: 0, end: 0 };
+    Tables {
+        records: [z; 260],
+        count: 0,
+        starts: [0; 260],
+        ends: [0; 260],
+        blocks: 0,
+        apart,
+    }
+}
+
+fn none_pending() -> Lists {
+    Lists {
+        addresses: [0; 256],
+        count: 0,
+        keys: [0; 2176],
+        pending: 0,
+        apart: 0,
+    }
+}
+
+// A sum that takes the order into account.
+fn mix(h: u64, v: u64) -> u64 {
+    let x = (h % 0x1_0000_0000) * 31 + v / 0x1_0000_0000;
+    (x % 0x1_0000_0000) * 31 + v % 0x1_0000_0000
+}
+
+fn sum_of_records(t: [Block; 260]) -> u64 {
+    let mut h: u64 = 0;
+    let mut i: usize = 0;
+    while i < 260 {
+        h = mix(mix(h, t[i].start), t[i].end);
+        i += 1;
+    }
+    h
+}
+
+fn sum_of_columns(ss: [u64; 260], es: [u64; 260]) -> u64 {
+    let mut h: u64 = 0;
+    let mut i: usize = 0;
+    while i < 260 {
+        h = mix(mix(h, ss[i]), es[i]);
+        i += 1;
+    }
+    h
+}
+
+fn sum_of_list(p: [u64; 256]) -> u64 {
+    let mut h: u64 = 0;
+    let mut i: usize = 0;
+    while i < 256 {
+        h = mix(h, p[i]);
+        i += 1;
+    }
+    h
+}
+
+fn sum_of_keys(k: [u64; 2176]) -> u64 {
+    let mut h: u64 = 0;
+    let mut i: usize = 1920;
+    while i < 2176 {
+        h = mix(h, k[i]);
+        i += 1;
+    }
+    h
+}
+
+// Whether every row is the same in both.
+fn is_same_table(t: [Block; 260], ss: [u64; 260], es: [u64; 260]) -> bool {
+    let mut i: usize = 0;
+    while i < 260 {
+        if t[i].start != ss[i] {
+            return false;
+        }
+        if t[i].end != es[i] {
+            return false;
+        }
+        i += 1;
+    }
+    true
+}
+
+// Whether every address is the same in both.
+fn is_same_list(p: [u64; 256], k: [u64; 2176]) -> bool {
+    let mut i: usize = 0;
+    while i < 256 {
+        if p[i] != k[1920 + i] {
+            return false;
+        }
+        i += 1;
+    }
+    true
+}
+
+fn wide(n: u32) -> u64 {
+    n as u64
+}
+
+fn print_digit(b: bool) {
+    if b {
+        io::write_all(1, b" 1 ");
+    } else {
+        io::write_all(1, b" 0 ");
+    }
+}
+
+fn print_answer(first: u64, yes: bool, count: usize, sum: u64) {
+    io::print_decimal(1, first);
+    print_digit(yes);
+    io::print_decimal(1, count as u64);
+    io::write_all(1, b" ");
+    io::print_hex(1, sum % 0x1_0000_0000, 8);
+}
+
+// One more disagreement, unless they agree.
+fn counted(apart: u64, same: bool) -> u64 {
+    if same {
+        return apart;
+    }
+    std::num::wrapping_add_u64(apart, 1)
+}
+
+// ---- the table
+
+fn told_table(t: Tables, d: Done, m: Marking) -> Tables {
+    let records = t.records;
+    let starts = t.starts;
+    let ends = t.ends;
+    print_answer(wide(d.number), d.yes, d.count, sum_of_records(records));
+    io::write_all(1, b" | ");
+    print_answer(wide(m.number), m.new, m.count, sum_of_columns(starts, ends));
+    io::write_all(1, b"\n");
+    let same = d.number == m.number && d.count == m.count && d.yes == m.new;
+    let rows = is_same_table(records, starts, ends);
+    Tables {
+        records,
+        count: d.count,
+        starts,
+        ends,
+        blocks: m.count,
+        apart: counted(t.apart, same && rows),
+    }
+}
+
+// The core's table after a mark.
+struct Core {
+    starts: [u64; 260],
+    ends: [u64; 260],
+    done: Marking,
+}
+
+fn core_mark(t: Tables, addr: u64) -> Core {
+    let mut starts = t.starts;
+    let mut ends = t.ends;
+    let done = marks::mark(&mut starts, &mut ends, t.blocks, addr);
+    Core { starts, ends, done }
+}
+
+fn mark_both(t: Tables, addr: u64) -> Tables {
+    let before = t.records;
+    let d = mark_done(before, t.count, addr);
+    let records = mark_table(before, t.count, addr);
+    let c = core_mark(t, addr);
+    let starts = c.starts;
+    let ends = c.ends;
+    let done = c.done;
+    io::write_all(1, b"m ");
+    let after = Tables {
+        records,
+        count: t.count,
+        starts,
+        ends,
+        blocks: t.blocks,
+        apart: t.apart,
+    };
+    told_table(after, d, done)
+}
+
+// What the core says of a mark where a cut was made or refused: yes where the mark opened no block.
+fn core_cut(t: Tables, records: [Block; 260], d: Done, addr: u64) -> Tables {
+    let c = core_mark(t, addr);
+    let starts = c.starts;
+    let ends = c.ends;
+    let done = c.done;
+    let made = Marking {
+        number: done.number,
+        count: done.count,
+        new: done.number == 0 && !done.new,
+    };
+    let after = Tables {
+        records,
+        count: t.count,
+        starts,
+        ends,
+        blocks: t.blocks,
+        apart: t.apart,
+    };
+    told_table(after, d, made)
+}
+
+fn cut_both(t: Tables, addr: u64) -> Tables {
+    let before = t.records;
+    let d = cut_done(before, t.count, addr);
+    let records = cut_table(before, t.count, addr);
+    io::write_all(1, b"c ");
+    if d.yes || d.number != 0 {
+        return core_cut(t, records, d, addr);
+    }
+    let starts = t.starts;
+    let ends = t.ends;
+    let none = Marking {
+        number: 0,
+        count: t.blocks,
+        new: false,
+    };
+    let after = Tables {
+        records,
+        count: t.count,
+        starts,
+        ends,
+        blocks: t.blocks,
+        apart: t.apart,
+    };
+    told_table(after, d, none)
+}
+
+fn put_row(t: Tables, start: u64, end: u64) -> Tables {
+    let n = t.count;
+    let mut r = t;
+    if n < 260 {
+        let b = Block { start, end };
+        r.records[n] = b;
+        r.starts[n] = start;
+        r.ends[n] = end;
+        r.count = n + 1;
+        r.blocks = n + 1;
+    }
+    r
+}
+
+fn count_set(t: Tables, n: usize) -> Tables {
+    let mut r = t;
+    r.count = n;
+    r.blocks = n;
+    r
+}
+
+// ---- the list
+
+// An answer: whether there is one, and an address.
+struct Told {
+    yes: bool,
+    addr: u64,
+}
+
+fn told_list(s: Lists, r: Told, c: Told) -> Lists {
+    let addresses = s.addresses;
+    let keys = s.keys;
+    print_answer(r.addr, r.yes, s.count, sum_of_list(addresses));
+    io::write_all(1, b" | ");
+    print_answer(c.addr, c.yes, s.pending, sum_of_keys(keys));
+    io::write_all(1, b"\n");
+    let same = r.yes == c.yes && r.addr == c.addr && s.count == s.pending;
+    let all = is_same_list(addresses, keys);
+    Lists {
+        addresses,
+        count: s.count,
+        keys,
+        pending: s.pending,
+        apart: counted(s.apart, same && all),
+    }
+}
+
+fn with_record(s: Lists, p: Pending) -> Lists {
+    let addresses = p.addresses;
+    let keys = s.keys;
+    Lists {
+        addresses,
+        count: p.count,
+        keys,
+        pending: s.pending,
+        apart: s.apart,
+    }
+}
+
+fn record_of(s: Lists) -> Pending {
+    let addresses = s.addresses;
+    Pending {
+        addresses,
+        count: s.count,
+    }
+}
+
+// The core's push, where its count allows one.
+fn core_push(s: Lists, addr: u64, r: Told) -> Lists {
+    let n = s.pending;
+    if n <= 256 {
+        let mut keys = s.keys;
+        let c = executor::push(&mut keys, n, addr);
+        let addresses = s.addresses;
+        let after = Lists {
+            addresses,
+            count: s.count,
+            keys,
+            pending: c.count,
+            apart: s.apart,
+        };
+        let told = Told {
+            yes: c.fault == 0,
+            addr: 0,
+        };
+        return told_list(after, r, told);
+    }
+    told_list(
+        s,
+        r,
+        Told {
+            yes: false,
+            addr: 0,
+        },
+    )
+}
+
+fn push_both(s: Lists, addr: u64) -> Lists {
+    let p = push_in(record_of(s), addr);
+    let list = p.list;
+    io::write_all(1, b"p ");
+    let told = Told {
+        yes: p.done,
+        addr: 0,
+    };
+    core_push(with_record(s, list), addr, told)
+}
+
+fn told_of(t: Popped) -> Told {
+    match t {
+        Popped::At(a) => Told { yes: true, addr: a },
+        Popped::Empty => Told {
+            yes: false,
+            addr: 0,
+        },
+    }
+}
+
+// The core's pop, where its count allows one.
+fn core_pop(s: Lists, r: Told) -> Lists {
+    let n = s.pending;
+    if 0 < n {
+        if n <= 256 {
+            let keys = s.keys;
+            let c = executor::pop(&keys, n);
+            let mut after = s;
+            after.pending = c.count;
+            let told = Told {
+                yes: true,
+                addr: c.addr,
+            };
+            return told_list(after, r, told);
+        }
+    }
+    told_list(
+        s,
+        r,
+        Told {
+            yes: false,
+            addr: 0,
+        },
+    )
+}
+
+fn pop_both(s: Lists) -> Lists {
+    let p = pop_in(record_of(s));
+    let list = p.list;
+    let top = p.top;
+    io::write_all(1, b"o ");
+    core_pop(with_record(s, list), told_of(top))
+}
+
+fn pending_set(s: Lists, n: usize) -> Lists {
+    let mut r = s;
+    r.count = n;
+    r.pending = n;
+    r
+}
+
+// ---- the input
+
+// A line that is read: its letter, and up to two numbers.
+struct Line {
+    letter: u8,
+    first: u64,
+    second: u64,
+    numbers: u32,
+}
+
+fn fresh() -> Line {
+    Line {
+        letter: 0,
+        first: 0,
+        second: 0,
+        numbers: 0,
+    }
+}
+
+fn small(v: u64) -> usize {
+    if v < 1000 {
+        return v as usize;
+    }
+    1000
+}
+
+fn table_line(t: Tables, l: Line) -> Tables {
+    let letter = l.letter;
+    match letter {
+        b'm' => mark_both(t, l.first),
+        b'c' => cut_both(t, l.first),
+        b'r' => put_row(t, l.first, l.second),
+        b'n' => count_set(t, small(l.first)),
+        b'z' => no_blocks(t.apart),
+        _ => t,
+    }
+}
+
+fn list_line(s: Lists, l: Line) -> Lists {
+    let letter = l.letter;
+    match letter {
+        b'p' => push_both(s, l.first),
+        b'o' => pop_both(s),
+        b'q' => pending_set(s, small(l.first)),
+        _ => s,
+    }
+}
+
+// A digit's value; 16 for what is no digit.
+fn value_of(b: u8) -> u64 {
+    if b >= b'0' && b <= b'9' {
+        return (b - b'0') as u64;
+    }
+    if b >= b'a' && b <= b'f' {
+        return (b - b'a') as u64 + 10;
+    }
+    16
+}
+
+fn digit(l: Line, d: u64) -> Line {
+    let mut r = l;
+    if l.numbers == 1 {
+        r.first = l.first % 0x1000_0000_0000_0000 * 16 + d % 16;
+    }
+    if l.numbers == 2 {
+        r.second = l.second % 0x1000_0000_0000_0000 * 16 + d % 16;
+    }
+    r
+}
+
+// The line with one more byte.
+fn more(l: Line, b: u8) -> Line {
+    let mut r = l;
+    if l.letter == 0 {
+        r.letter = b;
+        return r;
+    }
+    if b == b' ' {
+        if l.numbers < 2 {
+            r.numbers = l.numbers + 1;
+        }
+        return r;
+    }
+    digit(r, value_of(b))
+}
+
+// Both, and the line that is being read.
+struct Reading {
+    tables: Tables,
+    lists: Lists,
+    line: Line,
+}
+
+fn take(r: Reading, b: u8) -> Reading {
+    let tables = r.tables;
+    let lists = r.lists;
+    let line = r.line;
+    if b == b'\n' {
+        let t = table_line(tables, line);
+        let s = list_line(lists, line);
+        let l = fresh();
+        return Reading {
+            tables: t,
+            lists: s,
+            line: l,
+        };
+    }
+    let l = more(line, b);
+    Reading {
+        tables,
+        lists,
+        line: l,
+    }
+}
+
+fn take_all(from: Reading, bytes: &[u8]) -> Reading {
+    let mut r = from;
+    let mut i: usize = 0;
+    while i < bytes.len() {
+        r = take(r, bytes[i]);
+        i += 1;
+    }
+    r
+}
+
+fn begun() -> Reading {
+    let tables = no_blocks(0);
+    let lists = none_pending();
+    let line = fresh();
+    Reading {
+        tables,
+        lists,
+        line,
+    }
+}
+
+fn print_end(r: Reading) {
+    let tables = r.tables;
+    let lists = r.lists;
+    io::write_all(1, b"disagreements ");
+    io::print_decimal(1, std::num::wrapping_add_u64(tables.apart, lists.apart));
+    io::write_all(1, b"\n");
+}
+
+fn main() {
+    let mut r = begun();
+    // The input is taken in parts; a million of them are four gigabytes.
+    let mut turn: usize = 0;
+    while turn < 1000000 {
+        let mut space = io::buffer();
+        let got = libc::read(0, &mut space);
+        if got <= 0 {
+            break;
+        }
+        let n = io::count(got, &space);
+        r = take_all(r, &space[..n]);
+        turn += 1;
+    }
+    print_end(r);
+}
