@@ -1,5 +1,5 @@
 -- Entries as the rows of a table of blocks: the same lookups.
-use mathlib.Core.Path.{_≡_, refl, sym, ap, ap₂, _∙_}
+use mathlib.Core.Path.{_≡_, refl, sym, ap, _∙_}
 use mathlib.Core.List.{List, [], _∷_, map}
 use mathlib.Core.Bool.{Bool, true, false, false≢true, _&&_, _||_}
 use Prim.Native.Nat.{ℕ, suc, _+_, _≤_, _<_}
@@ -139,24 +139,6 @@ module _ (n : ℕ) (known : List ℕ) (kept : Kept n known) where
       covering-none l =
           let q = below-is k s e b in
           sym (covering-miss k es (sym h ∙ miss) ∙ if-false (le-ltb k _ (rw (← q .1) l)) _ _)
-
-    -- the nearest that begins below the next address
-    module _ (k s e : ℕ) (b : block s e ≡ below (k + 1) (known-rows n known)) where
-      near : (s ≡ lower entryOf (suc k) (new-entry 0) es .entry) × (e ≡ lower entryOf (suc k) (new-entry 0) es .end)
-      near =
-          let z : k + 1 ≡ suc k = omega arith in
-          below-is (suc k) s e (b ∙ ap (λ (j : ℕ). below j (known-rows n known)) z)
-
-      tested : (eqb (lower entryOf (suc k) (new-entry 0) es .entry) k || ltb k (lower entryOf (suc k) (new-entry 0) es .end)) ≡ (eqb s k || ltb k e)
-      tested = ap₂ (λ (i j : ℕ). eqb i k || ltb k j) (sym (near .0)) (sym (near .1))
-
-      pub covered : (eqb s k || ltb k e) ≡ true → s ≡ covering k es
-      unfolding covering
-      covered t = near .0 ∙ sym (if-true (tested ∙ t) _ _)
-
-      pub not-covered : (eqb s k || ltb k e) ≡ false → 0 ≡ covering k es
-      unfolding covering
-      not-covered t = sym (if-false (tested ∙ t) _ _)
 
     pub between : (low high : ℕ) (r : Bool) → r ≡ any (λ x. leb low x && leb x high) (take n (take 1024 (drop 0 known))) → r ≡ any-between low high es
     unfolding any-between

@@ -17,8 +17,8 @@ pub fn has_entry(known: &[u64], n: usize, addr: u64) -> bool
     blocks::has_start(&known[a..b], &known[b..c], n, addr)
 }
 
-// The known function at or around addr, in two searches; 0 for none.
-fn covering_any(known: &[u64], n: usize, addr: u64) -> u64
+// The known function at or around addr; 0 for none.
+pub fn covering(known: &[u64], n: usize, addr: u64) -> u64
     requires { ⌜ Kept n (now known) ⌝ }
     ensures { λ r. ⌜ ((es : List rules.Entry) → Knows n (now (known .entry)) es → r ≡ rules.covering addr es) ⌝ }
 {
@@ -30,25 +30,6 @@ fn covering_any(known: &[u64], n: usize, addr: u64) -> u64
     let c: usize = 2048;
     let f = blocks::lower(&known[a..b], &known[b..c], n, addr);
     if addr < f.end {
-        return f.start;
-    }
-    0
-}
-
-// The known function at or around addr; 0 for none. It is the nearest one that begins below the next address, in one search; the highest
-// address has no next one.
-pub fn covering(known: &[u64], n: usize, addr: u64) -> u64
-    requires { ⌜ Kept n (now known) ⌝ }
-    ensures { λ r. ⌜ ((es : List rules.Entry) → Knows n (now (known .entry)) es → r ≡ rules.covering addr es) ⌝ }
-{
-    if addr == 0xFFFF_FFFF_FFFF_FFFF {
-        return covering_any(known, n, addr);
-    }
-    let a: usize = 0;
-    let b: usize = 1024;
-    let c: usize = 2048;
-    let f = blocks::lower(&known[a..b], &known[b..c], n, addr + 1);
-    if (f.start == addr) | (addr < f.end) {
         return f.start;
     }
     0
