@@ -61,7 +61,7 @@ module _ (im : Image) (cap : rules.Capacity) (es : List Entry) (n : ℕ) (known 
 module _ (s b o f x sk : List ℕ) (c : Code) (cap : rules.Capacity) (l : Lent) (q : Displays l s b o f x sk c) (es : List Entry) (t : Sane l es) (n : ℕ) (known infos lists : List ℕ) (m : ℕ)
     (made : Entered (rules.process-functions (image l) cap es) n known infos lists m) (z : m ≡ 0) where
   pub rounds-sane : Sane l (rounds-gone (image l) cap es n known infos lists m made z .entries)
-  rounds-sane = record { table = holds-at (process-functions-processed (image l) (checked s b o f x sk c cap l q) cap es (t .table)) (rounds-gone (image l) cap es n known infos lists m made z .is) .late }
+  rounds-sane = record { table = holds-at (process-functions-processed (image l) (checked s b o f x sk c l q) cap es (t .table)) (rounds-gone (image l) cap es n known infos lists m made z .is) .late }
 
   pub rounds-ready : Ready s b o f x sk c n known infos lists
   rounds-ready = let d : Gone (rules.process-functions (image l) cap es) n known infos lists = rounds-gone (image l) cap es n known infos lists m made z in record { lent = l; displays = q; entries = d .entries; holds = d .holds; sane = rounds-sane }
@@ -83,7 +83,7 @@ module _ (im : Image) (cap : rules.Capacity) (n : ℕ) (known infos lists : List
 
 module _ (s b o f x sk : List ℕ) (c : Code) (cap : rules.Capacity) (l : Lent) (q : Displays l s b o f x sk c) (n : ℕ) (known infos lists : List ℕ) (m : ℕ) (made : Entered (rules.walk-given (image l) cap) n known infos lists m) (z : m ≡ 0) where
   pub given-sane : Sane l (given-gone (image l) cap n known infos lists m made z .entries)
-  given-sane = record { table = holds-at (walk-given-table (image l) cap (checked s b o f x sk c cap l q)) (given-gone (image l) cap n known infos lists m made z .is) }
+  given-sane = record { table = holds-at (walk-given-table (image l) cap (checked s b o f x sk c l q)) (given-gone (image l) cap n known infos lists m made z .is) }
 
   pub given-ready : Ready s b o f x sk c n known infos lists
   given-ready = let d : Gone (rules.walk-given (image l) cap) n known infos lists = given-gone (image l) cap n known infos lists m made z in record { lent = l; displays = q; entries = d .entries; holds = d .holds; sane = given-sane }

@@ -83,10 +83,7 @@ fn finish_rounds(
         room,
     );
     if r.fault != 0 {
-        return Entries {
-            count: r.count,
-            fault: r.fault,
-        };
+        return r;
     }
     let t = cfa_rounds::last_rounds(
         sections,
@@ -105,10 +102,7 @@ fn finish_rounds(
         room,
     );
     if t.fault != 0 {
-        return Entries {
-            count: t.count,
-            fault: t.fault,
-        };
+        return t;
     }
     all_finalized(known, infos, lists, t.count)
 }

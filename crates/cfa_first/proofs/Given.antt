@@ -1,19 +1,18 @@
 -- What is known beforehand, and one thing done after the other.
-use Prim.Native.Nat.{ℕ, suc, _+_, _*_, _%_, _≤_, _<_}
+use Prim.Native.Nat.{ℕ, suc, _+_, _-_, _*_, _%_, _≤_, _<_}
 use mathlib.Core.Path.{_≡_, refl, sym, ap, _∙_, subst}
-use mathlib.Core.List.{List, [], _∷_, map}
+use mathlib.Core.List.{List, [], _∷_, _++_, map, append-nil}
 use native.Mathlib.Omega.{arith}
-use lib.ListN.{length, take, getD, replicate, length-replicate, List·getD-map}
-use lib.Seq.{ext-getD, getD-take, length-take-le, take-paste, paste}
+use lib.ListN.{length, take, drop, getD, set, length-take, replicate, length-replicate, List·getD-map}
+use lib.Seq.{ext-getD, getD-take, length-take-le, take-paste, paste, take-suc-set}
 use borrow.Author.Tests.{eq-eqb, ne-eqb}
 use Rattle.rules.specs.Choice.{if-true, if-false, Answer, ok, _>>=_}
 use Rattle.rules.specs.Loop.{bind-fails}
-use Rattle.rules.specs.Address.{key}
 use Rattle.rules.specs.Image as images
 use Rattle.rules.specs.Given as given
 use Rattle.rules.specs.Known.{Entry, entryOf, new-entry, end-of-entry}
 use Rattle.rules.specs.Map as rules
-use Rattle.rules.proofs.Faults.{Met, process-each-met, add-symbols-met, add-entry-met}
+use Rattle.rules.proofs.Faults.{Met, add-symbols-met, add-entry-met}
 use Rattle.rules.proofs.Passes.{code-from-low}
 use Rattle.obj.specs.Lent as lents
 use Rattle.obj.specs.Lent.{Lent, image}
@@ -21,7 +20,7 @@ use Rattle.obj.specs.declared.sections.Code.{Code}
 use Rattle.obj.proofs.Ready.{whole-functions}
 use Rattle.run.proofs.Ready.{code-in}
 use Rattle.known.specs.Table.{Kept, Knows}
-use Rattle.entries.specs.Table.{Holds, Good, capacity}
+use Rattle.entries.specs.Table.{Holds, Good}
 use Rattle.entries.proofs.Rows.{count-is}
 use Rattle.entries.proofs.Reading.{none-held}
 use Rattle.entries.proofs.Lookups.{entry-at}
@@ -29,8 +28,11 @@ use Rattle.cfa_entries.specs.Adding.{Entered}
 use Rattle.cfa_entries.proofs.Each.{Gone, gone, lost}
 use Rattle.cfa_process.specs.Displayed.{Displays, Displayed}
 use Rattle.cfa_process.proofs.Walked.{lends}
+use Rattle.cfa_settle.proofs.Keeping.{bind-assoc}
+use Rattle.cfa_rounds.proofs.Rest.{bind-cong}
+use Rattle.cfa_rounds.proofs.Parts.{bind-ok}
 use Rattle.cfa_symbols.specs.Listed.{Lists, Listed}
-use Rattle.cfa_first.specs.Walks.{process-given}
+use Rattle.cfa_first.specs.Walks.{process-given, point, Put}
 
 -- ---- one after the other
 
@@ -69,16 +71,22 @@ module _ (n : ℕ) (known infos lists : List ℕ) (es : List Entry) (h : Holds n
       let z : 0 + n ≡ n = omega arith in
       ap (λ (j : ℕ). take j (paste keys 0 known n)) (sym z) ∙ take-paste keys 0 known n (omega arith) (omega (arith, h .kept .few, h .kept .size)) ∙ known-keys
 
-  pub known-each : (l : Lent) (cap : rules.Capacity) (keys keys′ : List ℕ) (n′ : ℕ) (known′ infos′ lists′ : List ℕ) (x′ : ℕ) → keys′ ≡ paste keys 0 known n → Entered (rules.process-each (image l) cap (take n keys′) es) n′ known′ infos′ lists′ x′ → Entered (rules.process-each (image l) cap (map entryOf es) es) n′ known′ infos′ lists′ x′
-  known-each l cap keys keys′ n′ known′ infos′ lists′ x′ e t = subst (λ (ks : List ℕ). Entered (rules.process-each (image l) cap ks es) n′ known′ infos′ lists′ x′) (ap (take n) e ∙ copied-keys keys) t
+  -- and the entry point behind them
+  pub given-keys : (c : Code) (e keys keys₁ keys₂ : List ℕ) (m : ℕ) → keys₁ ≡ paste keys 0 known n → Put c e keys₁ n keys₂ m → take (m - 0) (drop 0 keys₂) ≡ map entryOf es ++ point c e
+  given-keys c e keys keys₁ keys₂ m i j =
+      let z : m - 0 ≡ m = omega arith in
+      ap (λ (k : ℕ). take k keys₂) z ∙ j .same ∙ ap (λ (ks : List ℕ). ks ++ point c e) (ap (take n) i ∙ copied-keys keys)
 
 -- there is room for them
 module _ (n : ℕ) (known infos lists : List ℕ) (g : Good n known infos lists) where
-  pub room-known : (n ≤ length known) × (0 + n ≤ 1024)
+  pub room-known : (n ≤ length known) × (0 + n ≤ 1025)
   room-known = (omega (arith, g .holds .kept .few, g .holds .kept .size), omega (arith, g .holds .kept .few))
 
-  pub room-keys : (m : ℕ) → m ≡ 1024 → (n ≤ 1024) × (n ≤ m)
-  room-keys m e = (g .holds .kept .few, omega (arith, e, g .holds .kept .few))
+  pub room-point : (m : ℕ) → m ≡ 1025 → n < m
+  room-point m e = omega (arith, e, g .holds .kept .few)
+
+  pub few-keys : (m : ℕ) (keys : List ℕ) → m ≤ n + 1 → length (take (m - 0) (drop 0 keys)) ≤ 1025
+  few-keys m keys h = omega (arith, h, g .holds .kept .few, length-take (m - 0) keys)
 
 -- ---- the image
 
@@ -105,25 +113,40 @@ module _ (l : Lent) (s b o f x sk : List ℕ) (c : Code) (q : Displays l s b o f
     unfolding given.image-of lents.given images.code-number
     point-is = ap (λ (y : List ℕ). given.entry-of (images.code-number (image l)) y) p
 
-    no-point : (y : List ℕ) (n : ℕ) → length y ≡ 0 → given.entry-of n y ≡ 0
-    no-point [] n z = refl
-    no-point (a ∷ y) n z = absurd (omega (arith, z))
-
-    a-point : (y : List ℕ) (n : ℕ) → (length y ≡ 0 → ⊥) → given.entry-of n y ≡ key n (getD y 0 0)
-    a-point [] n z = absurd (z refl)
-    a-point (a ∷ y) n z = refl
-
-    pub point-none : (n : ℕ) (known infos lists : List ℕ) → length e ≡ 0 → Holds n known infos lists es → Entered (rules.process-entry-point (image l) cap es) n known infos lists 0
+    -- walked by itself
+    alone : (e : List ℕ) → (image l .entry ≡ given.entry-of (images.code-number (image l)) e) → (es : List Entry) → rules.process-each (image l) cap (point c e) es ≡ rules.process-entry-point (image l) cap es
     unfolding rules.process-entry-point
-    point-none n known infos lists z h =
-        rw (if-true (eq-eqb (image l .entry) 0 (point-is ∙ no-point e (images.code-number (image l)) z)) (ok es) (rules.process-function-at (image l) cap (image l .entry) es)) (record { told = (h, refl) })
-
-    pub point-some : (w : ℕ) → (length e ≡ 0 → ⊥) → w ≡ getD e 0 0 → (n : ℕ) (known infos lists : List ℕ) (y : ℕ) → Entered (rules.process-function-at (image l) cap (c .number * 0x1_0000_0000 + w) es) n known infos lists y → Entered (rules.process-entry-point (image l) cap es) n known infos lists y
-    unfolding rules.process-entry-point
-    point-some w z is-w n known infos lists y t =
-        let k : image l .entry ≡ c .number * 0x1_0000_0000 + w = point-is ∙ a-point e (images.code-number (image l)) z ∙ ap (λ (j : ℕ). j * 0x1_0000_0000 + getD e 0 0) (sym (q .shows .checked .code .number)) ∙ ap (λ (j : ℕ). c .number * 0x1_0000_0000 + j) (sym is-w) in
+    alone [] i es = sym (if-true (eq-eqb (image l .entry) 0 i) (ok es) (rules.process-function-at (image l) cap (image l .entry) es))
+    alone (a ∷ e) i es =
+        let k : image l .entry ≡ c .number * 0x1_0000_0000 + a = i ∙ ap (λ (j : ℕ). j * 0x1_0000_0000 + a) (sym (q .shows .checked .code .number)) in
         let d : image l .entry ≡ 0 → ⊥ = λ v. omega (arith, v, k, some-section, q .shows .checked .code .number) in
-        rw (if-false (ne-eqb (image l .entry) 0 d) (ok es) (rules.process-function-at (image l) cap (image l .entry) es)) (subst (λ (j : ℕ). Entered (rules.process-function-at (image l) cap j es) n known infos lists y) (sym k) t)
+        bind-ok (rules.process-function-at (image l) cap (c .number * 0x1_0000_0000 + a) es) ∙ ap (λ (j : ℕ). rules.process-function-at (image l) cap j es) (sym k)
+        ∙ sym (if-false (ne-eqb (image l .entry) 0 d) (ok es) (rules.process-function-at (image l) cap (image l .entry) es))
+
+    -- and after others
+    behind : (ks : List ℕ) (es : List Entry) → rules.process-each (image l) cap (ks ++ point c e) es ≡ (rules.process-each (image l) cap ks es >>= rules.process-entry-point (image l) cap)
+    unfolding _>>=_
+    behind [] es = alone e point-is es
+    behind (j ∷ ks) es =
+        bind-cong (rules.process-function-at (image l) cap j es) (λ fs. rules.process-each (image l) cap (ks ++ point c e) fs) (λ fs. rules.process-each (image l) cap ks fs >>= rules.process-entry-point (image l) cap) (λ fs _. behind ks fs)
+        ∙ sym (bind-assoc (rules.process-function-at (image l) cap j es) (λ fs. rules.process-each (image l) cap ks fs) (rules.process-entry-point (image l) cap))
+
+    pub given-is : (keys : List ℕ) → keys ≡ map entryOf es ++ point c e → (n : ℕ) (known infos lists : List ℕ) (y : ℕ) → Entered (rules.process-each (image l) cap keys es) n known infos lists y → Entered (process-given (image l) cap es) n known infos lists y
+    given-is keys is n known infos lists y t = subst (λ (a : Answer (List Entry)). Entered a n known infos lists y) (ap (λ (ks : List ℕ). rules.process-each (image l) cap ks es) is ∙ behind (map entryOf es) es) t
+
+-- the keys with the entry point behind them
+pub put-point : (c : Code) (e keys : List ℕ) (n w r : ℕ) → n < length keys → (length e ≡ 0 → ⊥) → w ≡ getD e 0 0 → r ≡ n + 1 → Put c e keys n (set keys n (c .number * 0x1_0000_0000 + w)) r
+put-point c [] keys n w r h z i e = absurd (z refl)
+put-point c (a ∷ _) keys n w r h z i e =
+    let k : r ≡ suc n = omega (arith, e) in
+    record {
+      few = omega (arith, e);
+      same = ap (λ (j : ℕ). take j (set keys n (c .number * 0x1_0000_0000 + w))) k ∙ take-suc-set keys n (c .number * 0x1_0000_0000 + w) h ∙ ap (λ (j : ℕ). take n keys ++ (c .number * 0x1_0000_0000 + j) ∷ []) i;
+    }
+
+pub no-point : (c : Code) (e keys : List ℕ) (n : ℕ) → length e ≡ 0 → Put c e keys n keys n
+no-point c [] keys n z = record { few = omega arith; same = sym (append-nil (take n keys)) }
+no-point c (a ∷ e) keys n z = absurd (omega (arith, z))
 
 pub listed : (s b o f x sk : List ℕ) (c : Code) → Displayed s b o f x sk c → Listed f c
 listed s b o f x sk c d =
@@ -134,22 +157,6 @@ pub low : (s b o f x sk : List ℕ) (c : Code) → Displayed s b o f x sk c → 
 low s b o f x sk c d n known infos lists g = few-sections (d .lent) s b o f x sk c (d .displays) n known (g .entries) (g .holds .kept) (g .holds .knows)
 
 -- ---- the walks
-
-module _ (l : Lent) (room size : ℕ) where
-  abbrev cap : rules.Capacity
-  cap = record { entries = room; numbers = size }
-
-  pub given-fails : (es : List Entry) (n : ℕ) (known infos lists : List ℕ) (x : ℕ) → Entered (rules.process-each (image l) cap (map entryOf es) es) n known infos lists x → (x ≡ 0 → ⊥) → Entered (process-given (image l) cap es) n known infos lists x
-  given-fails es n known infos lists x t z = then-fails _ n known infos lists x t z (rules.process-entry-point (image l) cap)
-
-  module _ (es : List Entry) (n : ℕ) (known infos lists : List ℕ) (x : ℕ) (t : Entered (rules.process-each (image l) cap (map entryOf es) es) n known infos lists x) (z : x ≡ 0) where
-    pub given-good : Good n known infos lists
-    given-good = then-good _ n known infos lists x t (process-each-met (image l) cap (map entryOf es) es) z
-
-    pub given-goes : length lists ≡ size → (n′ : ℕ) (known′ infos′ lists′ : List ℕ) (x′ : ℕ) → ((fs : List Entry) → Holds n known infos lists fs → Entered (rules.process-entry-point (image l) (capacity room lists) fs) n′ known′ infos′ lists′ x′) → Entered (process-given (image l) cap es) n′ known′ infos′ lists′ x′
-    given-goes e n′ known′ infos′ lists′ x′ g =
-        then-goes _ n known infos lists x t (process-each-met (image l) cap (map entryOf es) es) z (rules.process-entry-point (image l) cap) n′ known′ infos′ lists′ x′
-        (λ fs h. subst (λ (y : ℕ). Entered (rules.process-entry-point (image l) (record { entries = room; numbers = y }) fs) n′ known′ infos′ lists′ x′) e (g fs h))
 
 module _ (l : Lent) (cap : rules.Capacity) (n : ℕ) (known infos lists : List ℕ) (x : ℕ) (t : Entered (rules.first-entries (image l) cap) n known infos lists x) where
   pub walk-fails : (x ≡ 0 → ⊥) → Entered (rules.walk-given (image l) cap) n known infos lists x

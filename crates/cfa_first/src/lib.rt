@@ -1,161 +1,31 @@
 // What is known of functions beforehand is walked once (cfa.rs, the beginning of AnalyzerState::detect_functions).
 ghost use mathlib.Core.Path.{_≡_};
-ghost use mathlib.Core.List.{List, map};
-ghost use Prim.Native.Nat.{_≤_};
-ghost use lib.ListN.{length, take};
-ghost use Rattle.rules.specs.Known.{Entry, entryOf};
+ghost use mathlib.Core.List.{List};
+ghost use Prim.Native.Nat.{_<_};
+ghost use lib.ListN.{length};
+ghost use Rattle.rules.specs.Known.{Entry};
 ghost use Rattle.rules.specs.Map as rules;
 ghost use Rattle.obj.specs.Lent.{Lent, image};
 ghost use Rattle.entries.specs.Table.{Holds, Good, capacity};
 ghost use Rattle.cfa_entries.specs.Adding.{Entered};
 ghost use Rattle.cfa_process.specs.Displayed.{Displays, Displayed};
-ghost use Rattle.cfa_first.specs.Walks.{process-given};
+ghost use Rattle.cfa_first.specs.Walks.{process-given, Put};
 use cfa_entries::Entries;
 
-// The entries at the first m of the keys are walked, one after the other.
-fn process_each(
-    sections: &[u32],
-    bytes: &[u8],
-    outcomes: &[u32],
-    functions: &[u32],
-    objects: &[u32],
-    skips: &[u32],
-    known: &mut [u64],
-    infos: &mut [u64],
-    lists: &mut [u64],
-    k: &mut [u64],
-    v: &mut [u64],
-    code: obj::sections::Code,
-    n: usize,
-    room: usize,
-    keys: &[u64],
-    m: usize,
-) -> Entries
-    requires image { ⌜ Displayed (now sections) (now bytes) (now outcomes) (now functions) (now objects) (now skips) code ⌝ }
-    requires good { ⌜ Good n (now known) (now infos) (now lists) ⌝ }
-    requires lent { ⌜ (length (now k) ≡ 2176) × (length (now v) ≡ 1536) ⌝ }
-    requires keys { ⌜ (m ≤ 1024) × (m ≤ length (now keys)) ⌝ }
-    ensures { λ r. ⌜ ((l : Lent) (es : List Entry) → Displays l (now (sections .entry)) (now (bytes .entry)) (now (outcomes .entry)) (now (functions .entry)) (now (objects .entry)) (now (skips .entry)) code → Holds n (now (known .entry)) (now (infos .entry)) (now (lists .entry)) es → Entered (rules.process-each (image l) (capacity room (now (lists .entry))) (take m (now (keys .entry))) es) (r .count) (now (known .exit)) (now (infos .exit)) (now (lists .exit)) (r .fault)) ⌝ }
-{
-    let mut r = Entries { count: n, fault: 0 };
-    let mut i: usize = 0;
-    while i < m {
-        r = cfa_process::process_function_at(
-            sections,
-            bytes,
-            outcomes,
-            functions,
-            objects,
-            skips,
-            known,
-            infos,
-            lists,
-            k,
-            v,
-            code,
-            r.count,
-            room,
-            keys[i],
-        );
-        if r.fault != 0 {
-            return r;
-        }
-        i += 1;
-    }
-    r
-}
-
-// The entries that there are now are walked; those that are added meanwhile are not.
-fn process_known(
-    sections: &[u32],
-    bytes: &[u8],
-    outcomes: &[u32],
-    functions: &[u32],
-    objects: &[u32],
-    skips: &[u32],
-    known: &mut [u64],
-    infos: &mut [u64],
-    lists: &mut [u64],
-    k: &mut [u64],
-    v: &mut [u64],
-    code: obj::sections::Code,
-    n: usize,
-    room: usize,
-) -> Entries
-    requires image { ⌜ Displayed (now sections) (now bytes) (now outcomes) (now functions) (now objects) (now skips) code ⌝ }
-    requires good { ⌜ Good n (now known) (now infos) (now lists) ⌝ }
-    requires lent { ⌜ (length (now k) ≡ 2176) × (length (now v) ≡ 1536) ⌝ }
-    ensures { λ r. ⌜ ((l : Lent) (es : List Entry) → Displays l (now (sections .entry)) (now (bytes .entry)) (now (outcomes .entry)) (now (functions .entry)) (now (objects .entry)) (now (skips .entry)) code → Holds n (now (known .entry)) (now (infos .entry)) (now (lists .entry)) es → Entered (rules.process-each (image l) (capacity room (now (lists .entry))) (map entryOf es) es) (r .count) (now (known .exit)) (now (infos .exit)) (now (lists .exit)) (r .fault)) ⌝ }
-{
-    let mut keys: [u64; 1024] = [0; 1024];
-    runs::copy_in(&mut keys, 0, known, n);
-    process_each(
-        sections,
-        bytes,
-        outcomes,
-        functions,
-        objects,
-        skips,
-        known,
-        infos,
-        lists,
-        k,
-        v,
-        code,
-        n,
-        room,
-        &keys,
-        n,
-    )
-}
-
-// The entry point is walked, if there is one.
-fn process_entry_point(
-    sections: &[u32],
-    bytes: &[u8],
-    outcomes: &[u32],
-    functions: &[u32],
-    objects: &[u32],
-    skips: &[u32],
-    entry: &[u32],
-    known: &mut [u64],
-    infos: &mut [u64],
-    lists: &mut [u64],
-    k: &mut [u64],
-    v: &mut [u64],
-    code: obj::sections::Code,
-    n: usize,
-    room: usize,
-) -> Entries
-    requires image { ⌜ Displayed (now sections) (now bytes) (now outcomes) (now functions) (now objects) (now skips) code ⌝ }
-    requires good { ⌜ Good n (now known) (now infos) (now lists) ⌝ }
-    requires lent { ⌜ (length (now k) ≡ 2176) × (length (now v) ≡ 1536) ⌝ }
-    ensures { λ r. ⌜ ((l : Lent) (es : List Entry) → Displays l (now (sections .entry)) (now (bytes .entry)) (now (outcomes .entry)) (now (functions .entry)) (now (objects .entry)) (now (skips .entry)) code → l .entry ≡ now (entry .entry) → Holds n (now (known .entry)) (now (infos .entry)) (now (lists .entry)) es → Entered (rules.process-entry-point (image l) (capacity room (now (lists .entry))) es) (r .count) (now (known .exit)) (now (infos .exit)) (now (lists .exit)) (r .fault)) ⌝ }
+// The entry point, if there is one, put behind n keys.
+fn put_entry_point(entry: &[u32], code: obj::sections::Code, keys: &mut [u64], n: usize) -> usize
+    requires low { ⌜ code .number < 16 ⌝ }
+    requires room { ⌜ n < length (now keys) ⌝ }
+    ensures { λ r. ⌜ Put code (now (entry .entry)) (now (keys .entry)) n (now (keys .exit)) r ⌝ }
 {
     if entry.len() == 0 {
-        return Entries { count: n, fault: 0 };
+        return n;
     }
-    let key = code.number * 0x1_0000_0000 + obj::sections::wide(entry[0]);
-    cfa_process::process_function_at(
-        sections,
-        bytes,
-        outcomes,
-        functions,
-        objects,
-        skips,
-        known,
-        infos,
-        lists,
-        k,
-        v,
-        code,
-        n,
-        room,
-        key,
-    )
+    keys[n] = code.number * 0x1_0000_0000 + obj::sections::wide(entry[0]);
+    n + 1
 }
 
-// The entries and then the entry point are walked.
+// The entries that there are now are walked, and then the entry point; entries that are added meanwhile are not.
 fn process_given(
     sections: &[u32],
     bytes: &[u8],
@@ -178,7 +48,10 @@ fn process_given(
     requires lent { ⌜ (length (now k) ≡ 2176) × (length (now v) ≡ 1536) ⌝ }
     ensures { λ r. ⌜ ((l : Lent) (es : List Entry) → Displays l (now (sections .entry)) (now (bytes .entry)) (now (outcomes .entry)) (now (functions .entry)) (now (objects .entry)) (now (skips .entry)) code → l .entry ≡ now (entry .entry) → Holds n (now (known .entry)) (now (infos .entry)) (now (lists .entry)) es → Entered (process-given (image l) (capacity room (now (lists .entry))) es) (r .count) (now (known .exit)) (now (infos .exit)) (now (lists .exit)) (r .fault)) ⌝ }
 {
-    let r = process_known(
+    let mut keys: [u64; 1025] = [0; 1025];
+    runs::copy_in(&mut keys, 0, known, n);
+    let m = put_entry_point(entry, code, &mut keys, n);
+    cfa_rounds::process_each(
         sections,
         bytes,
         outcomes,
@@ -193,26 +66,7 @@ fn process_given(
         code,
         n,
         room,
-    );
-    if r.fault != 0 {
-        return r;
-    }
-    process_entry_point(
-        sections,
-        bytes,
-        outcomes,
-        functions,
-        objects,
-        skips,
-        entry,
-        known,
-        infos,
-        lists,
-        k,
-        v,
-        code,
-        r.count,
-        room,
+        &keys[0..m],
     )
 }
 

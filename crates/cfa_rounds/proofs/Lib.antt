@@ -1,4 +1,4 @@
-pub mod Answers
-pub mod Rounding
+pub mod Rest
 pub mod Steps
-pub mod Turns
+pub mod Turning
+pub mod Parts

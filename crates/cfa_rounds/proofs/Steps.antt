@@ -1,26 +1,21 @@
--- One round from its parts, and what the rounds keep.
-use Prim.Native.Nat.{ℕ, _<_}
-use mathlib.Core.Path.{_≡_, refl, sym, ap, _∙_}
+-- One turn from its parts.
+use Prim.Native.Nat.{ℕ, suc, _+_, _≤_, _<_}
+use mathlib.Core.Path.{_≡_, refl, sym, ap, _∙_, subst}
 use mathlib.Core.Bool.{Bool, true, false}
-use mathlib.Core.List.{List}
+use mathlib.Core.List.{List, []}
 use native.Mathlib.Omega.{arith}
-use lib.ListN.{length}
+use lib.ListN.{length, drop, getD, drop-of-length-le}
+use lib.Seq.{drop-cons}
+use lib.Dec.{eqb}
 use borrow.Author.Tests.{eq-eqb, ne-eqb}
 use Rattle.rules.specs.Choice.{if, if-true, if-false, Answer, ok, fault, _>>=_}
-use Rattle.rules.specs.Loop as loops
-use Rattle.rules.specs.Loop.{map-holds, holds-at}
 use Rattle.rules.specs.Image as images
 use Rattle.rules.specs.Image.{Image}
-use Rattle.rules.specs.Given.{image-of}
 use Rattle.rules.specs.Known.{Entry}
 use Rattle.rules.specs.Map as rules
-use Rattle.rules.specs.Map.{Round, round, is-changed, rounds-left}
-use Rattle.rules.proofs.Faults.{Met, finalize-functions-met}
+use Rattle.rules.specs.Map.{Round, round}
 use Rattle.rules.proofs.Placed as placed
-use Rattle.rules.proofs.Placed.{finalize-functions-map}
 use Rattle.rules.proofs.Passes.{checked-of, passed-of, code-from-low}
-use Rattle.rules.proofs.Rounds as sound
-use Rattle.rules.proofs.Rounds.{process-step-sane, process-falls, last-sane, last-falls}
 use Rattle.obj.specs.Lent.{Lent, given, image}
 use Rattle.obj.specs.declared.sections.Code.{Code}
 use Rattle.obj.specs.Sections.{InBytes}
@@ -39,8 +34,8 @@ use Rattle.cfa_entries.specs.declared.Entries.{Entries}
 use Rattle.cfa_process.specs.Displayed.{Displays, Displayed}
 use Rattle.cfa_detect.specs.Behind.{Rounded, IsRound}
 use Rattle.cfa_detect.specs.declared.Detected.{Detected}
-use Rattle.cfa_rounds.specs.Ready.{Sane, Ready}
-use Rattle.cfa_rounds.proofs.Answers.{Went, went, fell}
+use Rattle.cfa_rounds.specs.Ready.{Ready}
+use Rattle.cfa_rounds.specs.Turns.{turn-of, after, next-key, no-entry, take-round, turn, Turned, IsTurn}
 
 -- ---- what the functions below ask of the image and of the slices
 
@@ -68,61 +63,10 @@ pub looks-of : (s b o f x sk : List ℕ) (c : Code) (l : Lent) → Displays l s 
 looks-of s b o f x sk c l q =
     record { bytes = q .shows .checked .bytes; skips = q .shows .skips; code = q .shows .checked .code; passed = passed-of (given l) (q .shows .checked .passed) .image }
 
--- ---- what a round keeps, and that less is left after it
+-- ---- one turn from its parts
 
-module _ (s b o f x sk : List ℕ) (c : Code) (cap : rules.Capacity) (l : Lent) (q : Displays l s b o f x sk c) where
-  pub checked : placed.Checked (image l)
-  checked = checked-of (given l) (q .shows .checked .passed)
-
-  module _ (r : Round) (h : is-changed r ≡ true) (t : Sane l (r .entries)) where
-    pub step-keeps : loops.Holds (λ (u : Round). Sane l (u .entries)) (rules.process-step (image l) cap r)
-    step-keeps = map-holds (process-step-sane (image l) checked cap r h (record { late = t .table })) (λ u p. record { table = p .late })
-
-    pub step-falls : loops.Holds (λ (u : Round). rounds-left u < rounds-left r) (rules.process-step (image l) cap r)
-    step-falls = process-falls (image l) checked cap r h (record { late = t .table })
-
-    pub last-keeps : loops.Holds (λ (u : Round). Sane l (u .entries)) (rules.last-step (image l) cap r)
-    last-keeps = map-holds (last-sane (image l) checked cap r h (record { late = t .table })) (λ u p. record { table = p .late })
-
-    pub last-less : loops.Holds (λ (u : Round). rounds-left u < rounds-left r) (rules.last-step (image l) cap r)
-    last-less = last-falls (image l) checked cap r h (record { late = t .table })
-
-  pub finalize-keeps : (last : Bool) (es : List Entry) → Sane l es → loops.Holds (λ (u : Round). Sane l (u .entries)) (rules.finalize-functions (image l) cap last es)
-  finalize-keeps last es t = map-holds (finalize-functions-map (image l) checked cap true last es (t .table)) (λ u p. record { table = p .late })
-
--- the entries of a round are ready for the next
-pub ready-after : (s b o f x sk : List ℕ) (c : Code) (n : ℕ) (known infos lists : List ℕ) → Ready s b o f x sk c n known infos lists → (cap : rules.Capacity) (last : Bool) (known′ infos′ lists′ : List ℕ) (r : Detected) →
-    ((l : Lent) (es : List Entry) → Displays l s b o f x sk c → Holds n known infos lists es → IsRound (rules.finalize-functions (image l) cap last es) known′ infos′ lists′ r) → r .fault ≡ 0 →
-    Ready s b o f x sk c (r .count) known′ infos′ lists′
-ready-after s b o f x sk c n known infos lists g cap last known′ infos′ lists′ r made z =
-    let d : Went (rules.finalize-functions (image (g .lent)) cap last (g .entries)) known′ infos′ lists′ r = went known′ infos′ lists′ r _ (finalize-functions-met (image (g .lent)) cap last (g .entries)) (made (g .lent) (g .entries) (g .displays) (g .holds)) z in
-    record { lent = g .lent; displays = g .displays; entries = d .round .entries; holds = d .holds; sane = holds-at (finalize-keeps s b o f x sk c cap (g .lent) (g .displays) last (g .entries) (g .sane)) (d .is) }
-
--- ---- entries finalized, or new ones found
-
-module _ (im : Image) (cap : rules.Capacity) (es : List Entry) (known infos lists : List ℕ) (r : Detected) (made : IsRound (rules.finalize-functions im cap false es) known infos lists r) where
-  pub finalize-fails : (r .fault ≡ 0 → ⊥) → IsRound (rules.finalize-or-detect im cap es) known infos lists r
-  unfolding rules.finalize-or-detect _>>=_
-  finalize-fails z = rw (fell known infos lists r _ made z) (record { told = refl })
-
-  module _ (z : r .fault ≡ 0) where
-    finalized : Went (rules.finalize-functions im cap false es) known infos lists r
-    finalized = went known infos lists r _ (finalize-functions-met im cap false es) made z
-
-    pub finalize-changes : r .changed ≡ true → IsRound (rules.finalize-or-detect im cap es) known infos lists r
-    unfolding rules.finalize-or-detect _>>=_
-    finalize-changes h =
-        let d : Went (rules.finalize-functions im cap false es) known infos lists r = finalized in
-        rw (d .is, if-true (sym (d .changed) ∙ h) (ok (d .round)) (rules.detect-new-functions im cap (d .round .entries)))
-        (record { told = (d .holds, d .changed, z) })
-
-    pub finalize-finds : r .changed ≡ false → (known′ infos′ : List ℕ) (r′ : Detected) → ((fs : List Entry) → Holds (r .count) known infos lists fs → IsRound (rules.detect-new-functions im cap fs) known′ infos′ lists r′) → IsRound (rules.finalize-or-detect im cap es) known′ infos′ lists r′
-    unfolding rules.finalize-or-detect _>>=_
-    finalize-finds h known′ infos′ r′ found =
-        let d : Went (rules.finalize-functions im cap false es) known infos lists r = finalized in
-        rw (d .is, if-false (sym (d .changed) ∙ h) (ok (d .round)) (rules.detect-new-functions im cap (d .round .entries))) (found (d .round .entries) (d .holds))
-
--- ---- an entry walked
+pub checked : (s b o f x sk : List ℕ) (c : Code) (l : Lent) → Displays l s b o f x sk c → placed.Checked (image l)
+checked s b o f x sk c l q = checked-of (given l) (q .shows .checked .passed)
 
 module _ (known infos lists : List ℕ) (r : Entries) where
   walked-by : (a : Answer (List Entry)) → Told a (r .count) known infos lists (r .fault) → Rounded (a >>= λ fs. ok (round true fs)) known infos lists (record { count = r .count; changed = true; fault = r .fault })
@@ -133,45 +77,51 @@ module _ (known infos lists : List ℕ) (r : Entries) where
   pub walked : (a : Answer (List Entry)) → Entered a (r .count) known infos lists (r .fault) → IsRound (a >>= λ fs. ok (round true fs)) known infos lists (record { count = r .count; changed = true; fault = r .fault })
   walked a e = record { told = walked-by a (e .told) }
 
--- ---- one round
+module _ (im : Image) (cap : rules.Capacity) (es : List Entry) (known infos lists : List ℕ) (r : Detected) where
+  pub none-finds : (s : ℕ) → s ≡ 1 → IsRound (rules.detect-new-functions im cap es) known infos lists r → IsRound (no-entry im cap s es) known infos lists r
+  unfolding no-entry
+  none-finds s e i = rw (if-true (eq-eqb s 1 e) (rules.detect-new-functions im cap es) (rules.finalize-functions im cap (eqb s 2) es)) i
 
-module _ (im : Image) (cap : rules.Capacity) (es : List Entry) (key : ℕ) (is-key : key ≡ rules.first-unbounded-function es) (known infos lists : List ℕ) (r : Detected) where
-  pub step-finds : key ≡ 0 → IsRound (rules.finalize-or-detect im cap es) known infos lists r → IsRound (rules.process-step im cap (round true es)) known infos lists r
-  unfolding rules.process-step rules.process-next
-  step-finds z i = rw (← is-key, eq-eqb key 0 z, if-true refl (rules.finalize-or-detect im cap es) (rules.process-function-at im cap key es >>= λ fs. ok (round true fs))) i
+  pub none-finalizes : (s : ℕ) → (s ≡ 1 → ⊥) → IsRound (rules.finalize-functions im cap (eqb s 2) es) known infos lists r → IsRound (no-entry im cap s es) known infos lists r
+  unfolding no-entry
+  none-finalizes s n i = rw (if-false (ne-eqb s 1 n) (rules.detect-new-functions im cap es) (rules.finalize-functions im cap (eqb s 2) es)) i
 
-  pub step-walks : (key ≡ 0 → ⊥) → IsRound (rules.process-function-at im cap key es >>= λ fs. ok (round true fs)) known infos lists r → IsRound (rules.process-step im cap (round true es)) known infos lists r
-  unfolding rules.process-step rules.process-next
-  step-walks n i = rw (← is-key, ne-eqb key 0 n, if-false refl (rules.finalize-or-detect im cap es) (rules.process-function-at im cap key es >>= λ fs. ok (round true fs))) i
+  module _ (s key : ℕ) (is-key : key ≡ next-key im cap s es) where
+    pub round-none : key ≡ 0 → IsRound (no-entry im cap s es) known infos lists r → IsRound (take-round im cap s (next-key im cap s es) es) known infos lists r
+    unfolding take-round
+    round-none z i = rw (← is-key, if-true (eq-eqb key 0 z) (no-entry im cap s es) (rules.process-function-at im cap key es >>= λ fs. ok (round true fs))) i
 
--- ---- a last round
+    pub round-walks : (key ≡ 0 → ⊥) → IsRound (rules.process-function-at im cap key es >>= λ fs. ok (round true fs)) known infos lists r → IsRound (take-round im cap s (next-key im cap s es) es) known infos lists r
+    unfolding take-round
+    round-walks n i = rw (← is-key, if-false (ne-eqb key 0 n) (no-entry im cap s es) (rules.process-function-at im cap key es >>= λ fs. ok (round true fs))) i
 
-module _ (im : Image) (cap : rules.Capacity) (es : List Entry) (known infos lists : List ℕ) (r : Detected) (made : IsRound (rules.finalize-functions im cap true es) known infos lists r) where
-  pub last-fails : (r .fault ≡ 0 → ⊥) → IsRound (rules.last-step im cap (round true es)) known infos lists r
-  unfolding rules.last-step _>>=_
-  last-fails z = rw (fell known infos lists r _ made z) (record { told = refl })
+pub key-none : (im : Image) (cap : rules.Capacity) (s : ℕ) (es : List Entry) → (s ≡ 0 → ⊥) → 0 ≡ next-key im cap s es
+unfolding next-key
+key-none im cap s es n = sym (if-false (ne-eqb s 0 n) (rules.first-unbounded-function es) 0)
 
-  module _ (z : r .fault ≡ 0) where
-    pub lasted : Went (rules.finalize-functions im cap true es) known infos lists r
-    lasted = went known infos lists r _ (finalize-functions-met im cap true es) made z
+pub key-some : (im : Image) (cap : rules.Capacity) (s : ℕ) (es : List Entry) (k : ℕ) → s ≡ 0 → k ≡ rules.first-unbounded-function es → k ≡ next-key im cap s es
+unfolding next-key
+key-some im cap s es k z e = e ∙ sym (if-true (eq-eqb s 0 z) (rules.first-unbounded-function es) 0)
 
-    pub last-stays : r .changed ≡ false → IsRound (rules.last-step im cap (round true es)) known infos lists r
-    unfolding rules.last-step _>>=_
-    last-stays h =
-        let d : Went (rules.finalize-functions im cap true es) known infos lists r = lasted in
-        rw (d .is, if-false (sym (d .changed) ∙ h) (rules.process-functions im cap (d .round .entries) >>= λ fs. ok (round true fs)) (ok (d .round)))
-        (record { told = (d .holds, d .changed, z) })
+module _ (keys known infos lists : List ℕ) where
+  walked-to : (ks : List ℕ) (a : Answer (List Entry)) (n m at : ℕ) → drop at keys ≡ ks → Told a n known infos lists m → Turned (a >>= λ fs. ok (turn-of ks 0 fs)) keys known infos lists (record { count = n; at = at; stage = 0; fault = m })
+  unfolding _>>=_
+  walked-to ks (ok fs) n m at d t = (t .0, d, refl, t .1)
+  walked-to ks (fault i) n m at d t = t
 
-    pub last-goes : r .changed ≡ true → (known′ infos′ lists′ : List ℕ) (n m : ℕ) →
-        Entered (rules.process-functions im cap (lasted .round .entries)) n known′ infos′ lists′ m →
-        IsRound (rules.last-step im cap (round true es)) known′ infos′ lists′ (record { count = n; changed = true; fault = m })
-    unfolding rules.last-step _>>=_
-    last-goes h known′ infos′ lists′ n m e =
-        let d : Went (rules.finalize-functions im cap true es) known infos lists r = lasted in
-        rw (d .is, if-true (sym (d .changed) ∙ h) (rules.process-functions im cap (d .round .entries) >>= λ fs. ok (round true fs)) (ok (d .round)))
-        (walked known′ infos′ lists′ (record { count = n; fault = m }) (rules.process-functions im cap (d .round .entries)) e)
+  rounded-to : (s at i : ℕ) (a : Answer Round) (r : Detected) → drop at keys ≡ [] → i ≡ if (r .changed) 0 (s + 1) → Rounded a known infos lists r → Turned (a >>= λ t. ok (after s t)) keys known infos lists (record { count = r .count; at = at; stage = i; fault = r .fault })
+  unfolding _>>=_
+  rounded-to s at i (ok t) r d e h = (h .0, d, e ∙ ap (λ (y : Bool). if y 0 (s + 1)) (h .1), h .2)
+  rounded-to s at i (fault m) r d e h = h
 
--- what is left after the possible blocks were taken is sane
-pub last-sane-here : (s b o f x sk : List ℕ) (c : Code) (cap : rules.Capacity) (l : Lent) → Displays l s b o f x sk c → (es : List Entry) → Sane l es → (known infos lists : List ℕ) (r : Detected)
-    (made : IsRound (rules.finalize-functions (image l) cap true es) known infos lists r) (z : r .fault ≡ 0) → Sane l (lasted (image l) cap es known infos lists r made z .round .entries)
-last-sane-here s b o f x sk c cap l q es t known infos lists r made z = holds-at (finalize-keeps s b o f x sk c cap l q true es t) (lasted (image l) cap es known infos lists r made z .is)
+  module _ (im : Image) (cap : rules.Capacity) (es : List Entry) (s at : ℕ) where
+    pub turn-walks : at < length keys → (n m : ℕ) → Entered (rules.process-function-at im cap (getD keys at 0) es) n known infos lists m → IsTurn (turn im cap (turn-of (drop at keys) s es)) keys known infos lists (record { count = n; at = at + 1; stage = 0; fault = m })
+    turn-walks h n m e =
+        let j : at + 1 ≡ suc at = omega arith in
+        subst (λ (ks : List ℕ). IsTurn (turn im cap (turn-of ks s es)) keys known infos lists (record { count = n; at = at + 1; stage = 0; fault = m })) (sym (drop-cons keys at 0 h))
+        (record { told = walked-to (drop (suc at) keys) (rules.process-function-at im cap (getD keys at 0) es) n m (at + 1) (ap (λ (i : ℕ). drop i keys) j) (e .told) })
+
+    pub turn-rounds : length keys ≤ at → (r : Detected) (i : ℕ) → i ≡ if (r .changed) 0 (s + 1) → IsRound (take-round im cap s (next-key im cap s es) es) known infos lists r → IsTurn (turn im cap (turn-of (drop at keys) s es)) keys known infos lists (record { count = r .count; at = at; stage = i; fault = r .fault })
+    turn-rounds h r i e made =
+        subst (λ (ks : List ℕ). IsTurn (turn im cap (turn-of ks s es)) keys known infos lists (record { count = r .count; at = at; stage = i; fault = r .fault })) (sym (drop-of-length-le keys h))
+        (record { told = rounded-to s at i (take-round im cap s (next-key im cap s es) es) r (drop-of-length-le keys h) e (made .told) })

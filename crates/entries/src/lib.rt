@@ -145,7 +145,7 @@ pub fn load(
 }
 
 // The first entry that is not analyzed; 0 for none.
-pub fn first_unbounded(known: &[u64], infos: &[u64], lists: &[u64], n: usize) -> u64
+pub fn first_unbounded_function(known: &[u64], infos: &[u64], lists: &[u64], n: usize) -> u64
     requires { ⌜ Good n (now known) (now infos) (now lists) ⌝ }
     ensures { λ r. ⌜ ((es : List Entry) → Holds n (now (known .entry)) (now (infos .entry)) (now (lists .entry)) es → r ≡ first-unbounded-function es) ⌝ }
 {

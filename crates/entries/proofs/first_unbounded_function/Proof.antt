@@ -8,8 +8,8 @@ use Rattle.rules.specs.Known.{Entry}
 use Rattle.rules.specs.Map.{first-unbounded-function}
 use Rattle.entries.specs.Table.{Holds}
 use Rattle.entries.proofs.Lookups.{bounded-next, unbounded-here, bounded-all}
-use Rattle.entries.proofs.first_unbounded.Statement.{statement}
-use Rattle.entries.proofs.first_unbounded.Tie as tie
+use Rattle.entries.proofs.first_unbounded_function.Statement.{statement}
+use Rattle.entries.proofs.first_unbounded_function.Tie as tie
 
 abbrev Inv-loop : tie.InvT-loop
 Inv-loop known infos lists n i₀ i = (i ≤ n) × ((es : List Entry) → Holds n known infos lists es → first-unbounded-function (drop i es) ≡ first-unbounded-function es)
@@ -53,8 +53,8 @@ returns c = let a = c .before .before .before .before .before .before .before .b
 returns-2 : tie.Need-returns-2 Inv-loop μ-loop
 returns-2 c = let a = c .before .before .before .before .before .args in λ es h. bounded-all (a .n) (a .known .now) (a .infos .now) (a .lists .now) es h _ (c .before .loop .inv .1 es h) (c .loop-test .left)
 
-pub first-unbounded-spec : {M : Type 1} → statement M
-first-unbounded-spec =
+pub first-unbounded-function-spec : {M : Type 1} → statement M
+first-unbounded-function-spec =
     tie.close
     (tie.spec
     Inv-loop
