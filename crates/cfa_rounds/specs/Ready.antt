@@ -4,11 +4,10 @@ use mathlib.Core.Bool.{true, false}
 use mathlib.Core.List.{List}
 use Prim.Native.Nat.{ℕ, _≤_}
 use lib.ListN.{length, drop}
-use Rattle.rules.specs.Choice.{Answer, ok, _>>=_}
 use Rattle.rules.specs.Loop as loops
 use Rattle.rules.specs.Known.{Entry}
 use Rattle.rules.specs.Map as rules
-use Rattle.rules.specs.Map.{Capacity, Round, round}
+use Rattle.rules.specs.Map.{Capacity, round}
 use Rattle.rules.proofs.Placed.{Table}
 use Rattle.obj.specs.Lent.{Lent, image}
 use Rattle.obj.specs.declared.sections.Code.{Code}
@@ -28,10 +27,6 @@ pub record Ready (s b o f x sk : List ℕ) (c : Code) (n : ℕ) (known infos lis
   pub entries : List Entry
   pub holds : Holds n known infos lists entries
   pub sane : Sane lent entries
-
--- a round that has changed the entries to these
-abbrev pub changed-to : Answer (List Entry) → Answer Round
-changed-to a = a >>= λ es. ok (round true es)
 
 -- A turn that a run of this image up to a stage can have: with what is given walked, its entries are such (nothing is asked where the run ends
 -- there), and where new ones are searched for, that is what the next round of `rules` does.

@@ -1,7 +1,6 @@
 // The turns of AnalyzerState::detect_functions: each walks an entry, finalizes what it can, or finds new entries.
 ghost use mathlib.Core.Path.{_≡_};
-ghost use mathlib.Core.Bool.{true, false};
-ghost use mathlib.Core.List.{List, []};
+ghost use mathlib.Core.List.{List};
 ghost use Prim.Native.Nat.{_+_, _≤_};
 ghost use lib.ListN.{length, drop};
 ghost use Rattle.rules.specs.Choice.{if};
@@ -13,7 +12,7 @@ ghost use Rattle.entries.specs.Table.{Holds, Good, capacity};
 ghost use Rattle.cfa_entries.specs.Adding.{Entered};
 ghost use Rattle.cfa_process.specs.Displayed.{Displays, Displayed};
 ghost use Rattle.cfa_detect.specs.Behind.{IsRound};
-ghost use Rattle.cfa_rounds.specs.Ready.{Sane, Ready, changed-to, Fit, Running};
+ghost use Rattle.cfa_rounds.specs.Ready.{Sane, Ready, Fit, Running};
 ghost use Rattle.cfa_rounds.specs.Turns.{turn-of, next-key, no-entry, take-round, turn, rest, IsTurn};
 use cfa_detect::Detected;
 use cfa_entries::Entries;
@@ -26,53 +25,6 @@ pub struct Run {
     pub at: usize,
     pub stage: u32,
     pub fault: u32,
-}
-
-// The entry at key is walked.
-fn process_entry(
-    sections: &[u32],
-    bytes: &[u8],
-    outcomes: &[u32],
-    functions: &[u32],
-    objects: &[u32],
-    skips: &[u32],
-    known: &mut [u64],
-    infos: &mut [u64],
-    lists: &mut [u64],
-    k: &mut [u64],
-    v: &mut [u64],
-    code: obj::sections::Code,
-    n: usize,
-    room: usize,
-    key: u64,
-) -> Detected
-    requires image { ⌜ Displayed (now sections) (now bytes) (now outcomes) (now functions) (now objects) (now skips) code ⌝ }
-    requires good { ⌜ Good n (now known) (now infos) (now lists) ⌝ }
-    requires lent { ⌜ (length (now k) ≡ 2176) × (length (now v) ≡ 1536) ⌝ }
-    ensures { λ r. ⌜ ((l : Lent) (es : List Entry) → Displays l (now (sections .entry)) (now (bytes .entry)) (now (outcomes .entry)) (now (functions .entry)) (now (objects .entry)) (now (skips .entry)) code → Holds n (now (known .entry)) (now (infos .entry)) (now (lists .entry)) es → IsRound (changed-to (rules.process-function-at (image l) (capacity room (now (lists .entry))) key es)) (now (known .exit)) (now (infos .exit)) (now (lists .exit)) r) ⌝ }
-{
-    let r = cfa_process::process_function_at(
-        sections,
-        bytes,
-        outcomes,
-        functions,
-        objects,
-        skips,
-        known,
-        infos,
-        lists,
-        k,
-        v,
-        code,
-        n,
-        room,
-        key,
-    );
-    Detected {
-        count: r.count,
-        changed: true,
-        fault: r.fault,
-    }
 }
 
 // No entry is to be walked: new ones are searched for, or what can be is finalized.
@@ -172,7 +124,7 @@ fn take_round(
             stage,
         );
     }
-    process_entry(
+    let r = cfa_process::process_function_at(
         sections,
         bytes,
         outcomes,
@@ -188,7 +140,12 @@ fn take_round(
         n,
         room,
         key,
-    )
+    );
+    Detected {
+        count: r.count,
+        changed: true,
+        fault: r.fault,
+    }
 }
 
 // After a round that has changed something comes the first stage, after another one the next.

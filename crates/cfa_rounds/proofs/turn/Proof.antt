@@ -18,19 +18,19 @@ add-t31 : tie.Need-add-t31
 add-t31 c = omega (arith, c .before .before .before .before .before .before .before .before .before .before .before .before .before .before .before .before .before .if1 .taken, c .before .before .before .before .before .before .before .before .before .before .before .before .before .before .before .before .before .before .before .before .before .before .before .before .before .before .before .before .before .before .pre .1 .1 .1 .0)
 
 same-length : tie.Need-same-length
-same-length c = search needs
+same-length c = c .before .before .before .before .before .before .before .before .before .known .given
 
 same-length-2 : tie.Need-same-length-2
-same-length-2 c = search needs
+same-length-2 c = c .before .before .before .before .before .before .before .infos .given
 
 same-length-3 : tie.Need-same-length-3
-same-length-3 c = search needs
+same-length-3 c = c .before .before .before .before .before .lists .given
 
 same-length-4 : tie.Need-same-length-4
-same-length-4 c = search needs
+same-length-4 c = c .before .before .before .k .given
 
 same-length-5 : tie.Need-same-length-5
-same-length-5 c = search needs
+same-length-5 c = c .before .v .given
 
 returns : tie.Need-returns
 returns c = λ l es q h. turn-walks _ _ _ _ (image l) _ es _ _ (c .before .before .before .before .before .before .before .before .before .before .before .before .before .before .before .before .before .if1 .taken) _ _ (c .before .before .before .before .before .before .before .before .before .before .process-function-at .ensures l es q h)
@@ -42,19 +42,19 @@ next-stage-requires : tie.Need-next-stage-requires
 next-stage-requires c κs = c .before .before .before .before .before .before .before .before .before .before .before .before .before .before .before .before .before .before .before .before .before .before .before .before .before .before .before .before .before .pre .1 .1 .1 .1 (c .before .before .before .before .before .before .before .before .before .before .before .before .before .before .before .before .if1 .left) .1
 
 same-length-6 : tie.Need-same-length-6
-same-length-6 c = search needs
+same-length-6 c = c .before .before .before .before .before .before .before .before .before .before .known2 .given
 
 same-length-7 : tie.Need-same-length-7
-same-length-7 c = search needs
+same-length-7 c = c .before .before .before .before .before .before .before .before .infos2 .given
 
 same-length-8 : tie.Need-same-length-8
-same-length-8 c = search needs
+same-length-8 c = c .before .before .before .before .before .before .lists2 .given
 
 same-length-9 : tie.Need-same-length-9
-same-length-9 c = search needs
+same-length-9 c = c .before .before .before .before .k2 .given
 
 same-length-10 : tie.Need-same-length-10
-same-length-10 c = search needs
+same-length-10 c = c .before .before .v2 .given
 
 returns-2 : tie.Need-returns-2
 returns-2 c = λ l es q h. turn-rounds _ _ _ _ (image l) _ es _ _ (c .before .before .before .before .before .before .before .before .before .before .before .before .before .before .before .before .before .if1 .left) _ _ (c .next-stage .ensures) (c .before .before .before .before .before .before .before .before .before .before .before .take-round .ensures l es q h)
