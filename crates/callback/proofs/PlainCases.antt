@@ -20,18 +20,20 @@ use Rattle.rules.proofs.Tests.{and-left, and-right}
 use Rattle.lists.specs.View as lists
 use Rattle.lists.specs.View.{view, Fit}
 use Rattle.lists.specs.declared.Small.{Small}
-use Rattle.walk.specs.State.{walk-of, with-small, Fits, Going, Is, Listed}
+use Rattle.walk.specs.State.{walk-of, with-small, with-place, faulting, Going, Is, Listed}
 use Rattle.walk.specs.declared.Walk.{Walk}
-use Rattle.walk.proofs.Answers.{is-ok, is-fault, stopped, onward}
+use Rattle.walk.proofs.Answers.{is-fault}
 use Rattle.callback_around.specs.declared.around.Around.{Around}
-use Rattle.callback.specs.Noted.{plain, noted, Noting, Notes}
+use Rattle.callback.specs.Noted.{plain, noted, stops, stopped-by, Noting, Notes, IsNoted}
+use Rattle.callback.specs.declared.words.Noted.{Noted}
 use Rattle.callback.specs.Lends.{Of, At, Meets}
 use Rattle.callback.proofs.Lends.{image-passed}
 use Rattle.obj.specs.Lent.{Lent, image}
-use Rattle.obj.specs.Outcomes.{told-for}
+use Rattle.obj.specs.Outcomes.{outcome-for, told-for}
 use Rattle.obj.specs.declared.sections.Code.{Code}
 use Rattle.obj.specs.declared.outcomes.Told.{Told}
-use Rattle.callback.proofs.WordCases.{with-lists}
+use Rattle.obj.specs.declared.outcomes.Outcome.{Outcome}
+use Rattle.callback.proofs.WordCases.{with-lists, some-fault, no-fault, some-known, none-known, word-known, word-own}
 
 -- ---- by the primary opcode
 
@@ -145,47 +147,69 @@ module _ (im : Image) (addr w : ℕ) (inside : images.contains (code-section im)
       same-fields s _ _ _ (ap (λ (y : ℕ). s .conditional-blr || words.is-conditional-blr y) (sym is-w) ∙ ap (λ (b : Bool). s .conditional-blr || b) (no-blr w h) ∙ or-false (s .conditional-blr))
       (ap (λ (y : ℕ). s .rfi || words.is-rfi y) (sym is-w) ∙ ap (λ (b : Bool). s .rfi || b) (no-rfi w h) ∙ or-false (s .rfi)) (ap (without self addr) e ∙ sym e)
 
-  module _ (vis : ℕ → Bool) (k v : List ℕ) (t : Walk) (g : Going k v t) where
-    pub plain-noted : t .small .possible ≡ 0 → Is (noted im addr (walk-of vis k v t)) vis k v t
-    unfolding noted _>>=_
+  module _ (k v : List ℕ) (s : Small) (f : Fit k v s × (s .fault ≡ 0)) where
+    pub plain-noted : s .possible ≡ 0 → IsNoted (noted im addr (view k v s)) k k v (record { small = s; fault = 0 })
+    unfolding noted _>>=_ if
     plain-noted z =
-        rw (sequences-kept (walk-of vis k v t .slices), note-kept (walk-of vis k v t .slices) (unfold walk-of view in ap (λ (n : ℕ). take n (lists.part 1792 128 k)) z))
-        (is-ok vis k v t refl (g .fine) (g .fits))
+        record {
+          is = rw (sequences-kept (view k v s), note-kept (view k v s) (unfold view in ap (λ (n : ℕ). take n (lists.part 1792 128 k)) z)) refl;
+          fit = f .0;
+          fine = f .1;
+          pending = refl;
+        }
 
 -- ---- others
 
-module _ (im : Image) (addr : ℕ) (vis : ℕ → Bool) (k v : List ℕ) (w : Walk) (s : Small) (checked : Listed (rules.check-sequences im addr (view k v (w .small))) k v s) where
-  told : rules.check-sequences im addr (walk-of vis k v w .slices) ≡ if (eqb (s .fault) 0) (ok (view k v s)) (fault (s .fault))
-  unfolding walk-of
-  told = checked .is
-
-  pub noted-fails : (r : Walk) → (s .fault ≡ 0 → ⊥) → r ≡ with-small w s → Is (noted im addr (walk-of vis k v w)) vis k v r
+module _ (im : Image) (addr : ℕ) (k v : List ℕ) (s t : Small) (checked : Listed (rules.check-sequences im addr (view k v s)) k v t) where
+  pub noted-fails : Fit k v s × (s .fault ≡ 0) → (t .fault ≡ 0 → ⊥) → IsNoted (noted im addr (view k v s)) k k v (record { small = s; fault = t .fault })
   unfolding noted _>>=_
-  noted-fails r n h = rw (told ∙ if-false (ne-eqb _ _ n) _ _) (is-fault vis k v r (rw h refl) n)
+  noted-fails f n =
+      record { is = rw (checked .is ∙ if-false (ne-eqb _ _ n) _ _) (sym (if-false (ne-eqb _ _ n) _ _)); fit = f .0; fine = f .1; pending = refl }
 
-  pub noted-on : Going k v w → (k′ v′ : List ℕ) (t : Small) (r : Walk) → s .fault ≡ 0 → Fit k′ v′ t × (t .fault ≡ 0) → lists.Is (ok (rules.note-word im addr (view k v s))) k k′ v′ t → r ≡ with-small w t → Is (noted im addr (walk-of vis k v w)) vis k′ v′ r
-  unfolding noted _>>=_
-  noted-on g k′ v′ t r z f i h =
-      rw (told ∙ if-true (eq-eqb _ _ z) _ _)
-      (is-ok vis k′ v′ r (with-lists vis k v k′ v′ w r t h (i .pending) (i .told .same)) (rw h (f .1))
-      (rw h (record { lists = f .0; few = g .fits .few; placed = g .fits .placed })))
+  pub noted-on : (k′ v′ : List ℕ) (u : Small) → t .fault ≡ 0 → Fit k′ v′ u × (u .fault ≡ 0) → lists.Is (ok (rules.note-word im addr (view k v t))) k k′ v′ u → IsNoted (noted im addr (view k v s)) k k′ v′ (record { small = u; fault = 0 })
+  unfolding noted _>>=_ if
+  noted-on k′ v′ u z f i =
+      record { is = rw (checked .is ∙ if-true (eq-eqb _ _ z) _ _) (ap ok (sym (i .told .same))); fit = f .0; fine = f .1; pending = i .pending }
 
 -- ---- and then what the word does
 
-module _ (e : rules.Around) (addr block : ℕ) (vis : ℕ → Bool) (k v k′ v′ : List ℕ) (w r : Walk) (i : Is (noted (e .image) addr (walk-of vis k v w)) vis k′ v′ r) where
-  split : rules.instruction-callback e addr block (walk-of vis k v w) ≡ (noted (e .image) addr (walk-of vis k v w) >>= rules.do-word e addr block)
-  unfolding rules.instruction-callback noted
-  split = by (rules.check-sequences (e .image) addr (walk-of vis k v w .slices))
+-- of what is noted, without the fault
+pub noted-going : {a : Answer Slices} (k v k′ v′ : List ℕ) (w r : Walk) (n : Noted) → IsNoted a k k′ v′ n → Going k v w → r ≡ with-small w (n .small) → Going k′ v′ r
+noted-going k v k′ v′ w r n i g h = rw h (record { fits = record { lists = i .fit; few = g .fits .few; placed = g .fits .placed }; fine = i .fine })
+
+module _ (e : rules.Around) (addr block : ℕ) (vis : ℕ → Bool) (k v k′ v′ : List ℕ) (w : Walk) (n : Noted) (i : IsNoted (noted (e .image) addr (view k v (w .small))) k k′ v′ n)
+    (b : Bool) (is-b : b ≡ stops (n .fault) (rules.is-known-function e (view k′ v′ (n .small)) addr)) (t : ℕ) (is-t : t ≡ stopped-by (n .fault) b) where
+  split : rules.instruction-callback e addr block (walk-of vis k v w) ≡ (noted (e .image) addr (view k v (w .small)) >>= λ s. rules.do-word e addr block (rules.with-slices (walk-of vis k v w) s))
+  unfolding rules.instruction-callback noted walk-of
+  split = by (rules.check-sequences (e .image) addr (view k v (w .small)))
     where
-      by : (a : Answer Slices) → (a >>= λ s. rules.do-word e addr block (rules.with-slices (walk-of vis k v w) (rules.note-word (e .image) addr s))) ≡ ((a >>= λ s. ok (rules.with-slices (walk-of vis k v w) (rules.note-word (e .image) addr s))) >>= rules.do-word e addr block)
+      by : (a : Answer Slices) → (a >>= λ s. rules.do-word e addr block (rules.with-slices (walk-of vis k v w) (rules.note-word (e .image) addr s))) ≡ ((a >>= λ s. ok (rules.note-word (e .image) addr s)) >>= λ s. rules.do-word e addr block (rules.with-slices (walk-of vis k v w) s))
       by (ok x) = unfold _>>=_ in refl
       by (fault n) = unfold _>>=_ in refl
 
-  pub word-fails : (r .small .fault ≡ 0 → ⊥) → Is (rules.instruction-callback e addr block (walk-of vis k v w)) vis k′ v′ r
-  word-fails n = rw split (stopped vis k′ v′ r (rules.do-word e addr block) i n)
+  pub word-fails : (q : Walk) → t ≡ 1 → q ≡ with-small w (faulting (w .small) (n .fault)) → Is (rules.instruction-callback e addr block (walk-of vis k v w)) vis k′ v′ q
+  unfolding _>>=_
+  word-fails q h p =
+      let z : n .fault ≡ 0 → ⊥ = some-fault _ b t is-t h in
+      rw (split, i .is ∙ if-false (ne-eqb _ _ z) _ _) (is-fault vis k′ v′ q (rw p refl) z)
 
-  pub word-does : (k″ v″ : List ℕ) (q : Walk) → r .small .fault ≡ 0 → Is (rules.do-word e addr block (walk-of vis k′ v′ r)) vis k″ v″ q → Is (rules.instruction-callback e addr block (walk-of vis k v w)) vis k″ v″ q
-  word-does k″ v″ q z j = rw split (onward vis vis k′ v′ k″ v″ r q _ (rules.do-word e addr block) i z j)
+  module _ (other : t ≡ 1 → ⊥) (r : Walk) (is-r : r ≡ with-small w (n .small)) where
+    fine : n .fault ≡ 0
+    fine = no-fault _ b t is-t other
+
+    goes : rules.instruction-callback e addr block (walk-of vis k v w) ≡ rules.do-word e addr block (walk-of vis k′ v′ r)
+    unfolding _>>=_
+    goes =
+        split ∙ ap (λ x. x >>= λ s. rules.do-word e addr block (rules.with-slices (walk-of vis k v w) s)) (i .is ∙ if-true (eq-eqb _ _ fine) _ _) ∙
+        ap (rules.do-word e addr block) (with-lists vis k v k′ v′ w r (n .small) is-r (i .pending) refl)
+
+    pub word-nowhere : (q : Walk) → t ≡ 2 → Going k v w → q ≡ with-place r 2 (r .at) (r .block) → Is (rules.instruction-callback e addr block (walk-of vis k v w)) vis k′ v′ q
+    word-nowhere q h g p =
+        rw goes
+        (word-known e vis k′ v′ r addr block q (rw is-r (some-known _ _ b t is-b is-t fine h)) (noted-going k v k′ v′ w r n i g is-r) p)
+
+    pub word-does : (k″ v″ : List ℕ) (q : Walk) (u : Outcome) → (t ≡ 2 → ⊥) → outcome-for u ≡ images.told-at (e .image) addr .outcome → Is (rules.do-outcome e addr block (outcome-for u) (walk-of vis k′ v′ r)) vis k″ v″ q → Is (rules.instruction-callback e addr block (walk-of vis k v w)) vis k″ v″ q
+    word-does k″ v″ q u h p j = rw goes (word-own e vis k′ v′ r addr block k″ v″ q u (rw is-r (none-known _ _ b t is-b is-t fine h)) p j)
 
 -- ---- of the lent lists
 
@@ -194,9 +218,9 @@ module _ (l : Lent) (b : List ℕ) (c : Code) (addr word : ℕ) (mark : Bool) (q
   inside-code =
       rw (← q .code .base, ← q .code .size, le-leb (c .base) (address-of addr) (at .above), lt-ltb (address-of addr) (c .base + c .size) (at .below)) refl
 
-  pub note-plain : (p : Bool) (vis : ℕ → Bool) (k v : List ℕ) (t : Walk) → p ≡ plain word → Going k v t → (p && eqb (t .small .possible) 0) ≡ true → Is (noted (image l) addr (walk-of vis k v t)) vis k v t
-  note-plain p vis k v t e g h =
-      plain-noted (image l) addr word inside-code (q .is-word) (sym e ∙ and-left _ _ h) vis k v t g (eqb-true _ _ (and-right p _ h))
+  pub note-plain : (p : Bool) (k v : List ℕ) (s : Small) → p ≡ plain word → Fit k v s × (s .fault ≡ 0) → (p && eqb (s .possible) 0) ≡ true → IsNoted (noted (image l) addr (view k v s)) k k v (record { small = s; fault = 0 })
+  note-plain p k v s e f h =
+      plain-noted (image l) addr word inside-code (q .is-word) (sym e ∙ and-left _ _ h) k v s f (eqb-true _ _ (and-right p _ h))
 
 module _ (s b f x n : List ℕ) (a : Around) (e : rules.Around) (o : Of s b f x n a e) (addr word : ℕ) (t : Told) (is-word : word ≡ images.word (e .image) (address-of addr)) (is-told : told-for t ≡ images.told-at (e .image) addr) where
   pub noting-of : Noting (o .lent) b (a .code) addr word (t .mark)
@@ -209,8 +233,8 @@ module _ (s b f x n : List ℕ) (a : Around) (e : rules.Around) (o : Of s b f x 
         is-word = is-word ∙ ap (λ (i : Image). images.word i (address-of addr)) (o .is-image);
       }
 
-  pub noted-of : (vis : ℕ → Bool) (k v k′ v′ : List ℕ) (w r : Walk) → ((l : Lent) (vis : ℕ → Bool) → Noting l b (a .code) addr word (t .mark) → Is (noted (image l) addr (walk-of vis k v w)) vis k′ v′ r) → Is (noted (e .image) addr (walk-of vis k v w)) vis k′ v′ r
-  noted-of vis k v k′ v′ w r g = rw (o .is-image) (g (o .lent) vis noting-of)
+  pub noted-of : (k v k′ v′ : List ℕ) (s : Small) (r : Noted) → ((l : Lent) → Noting l b (a .code) addr word (t .mark) → IsNoted (noted (image l) addr (view k v s)) k k′ v′ r) → IsNoted (noted (e .image) addr (view k v s)) k k′ v′ r
+  noted-of k v k′ v′ s r g = rw (o .is-image) (g (o .lent) noting-of)
 
 pub notes-of : (s b f x n : List ℕ) (a : Around) (addr word : ℕ) (t : Told) → Meets s b f x n a addr word t → Notes b (a .code) addr word (t .mark)
 notes-of s b f x n a addr word t m = record { lent = m .of .lent; noting = noting-of s b f x n a (m .around) (m .of) addr word t (m .is-word) (m .is-told) }

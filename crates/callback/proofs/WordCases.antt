@@ -1,5 +1,5 @@
 -- One word, case by case.
-use Prim.Native.Nat.{ℕ, _+_, _-_, _≤_, _<_}
+use Prim.Native.Nat.{ℕ, zero, suc, _+_, _-_, _≤_, _<_}
 use mathlib.Core.Path.{_≡_, refl, sym, ap, _∙_}
 use mathlib.Core.Bool.{Bool, true, false, false≢true, _||_}
 use mathlib.Core.List.{List, _++_}
@@ -33,6 +33,7 @@ use borrow.Author.Tests.{eq-eqb, ne-eqb}
 use Rattle.executor.specs.Pending.{pending}
 use Rattle.executor.proofs.Pending.{pending-same}
 use Rattle.callback.specs.AfterBlock.{after-block}
+use Rattle.callback.specs.Noted.{stops, stopped-by}
 use Rattle.callback.specs.Lends.{Of, kind}
 use Rattle.callback_around.specs.declared.around.Around.{Around}
 use Rattle.callback_around.proofs.Places.{placed-same, placed-nowhere}
@@ -139,22 +140,69 @@ module _ (e : rules.Around) (vis : ℕ → Bool) (k v : List ℕ) (w : Walk) (ad
     pub done-after : (k″ v″ : List ℕ) (q : Walk) → r .small .fault ≡ 0 → Is (after-block e addr (outcome-for u) (walk-of vis k′ v′ r)) vis k″ v″ q → Done k″ v″ q
     done-after k″ v″ q z j = rw (ended e addr block u (walk-of vis k v w) h) (onward vis vis k′ v′ k″ v″ r q _ (λ x. after-block e addr (outcome-for u) x) i z j)
 
+-- ---- what stops a word
+
+module _ (n : ℕ) (b : Bool) where
+  pub stops-fault : (n ≡ 0 → ⊥) → true ≡ stops n b
+  unfolding stops
+  stops-fault h = rw (ne-eqb n 0 h) refl
+
+  pub stops-fine : n ≡ 0 → b ≡ stops n b
+  unfolding stops
+  stops-fine z = rw (eq-eqb n 0 z) refl
+
+  pub by-fault : (n ≡ 0 → ⊥) → 1 ≡ stopped-by n b
+  unfolding stopped-by
+  by-fault h = sym (if-false (ne-eqb n 0 h) _ _)
+
+  pub by-known : n ≡ 0 → b ≡ true → 2 ≡ stopped-by n b
+  unfolding stopped-by
+  by-known z h = sym (if-true (eq-eqb n 0 z) _ _ ∙ if-true h _ _)
+
+  pub by-none : n ≡ 0 → b ≡ false → 0 ≡ stopped-by n b
+  unfolding stopped-by
+  by-none z h = sym (if-true (eq-eqb n 0 z) _ _ ∙ if-false h _ _)
+
+pub some-fault : (n : ℕ) (b : Bool) (t : ℕ) → t ≡ stopped-by n b → t ≡ 1 → n ≡ 0 → ⊥
+some-fault n true t e h z = omega (arith, by-known n true z refl)
+some-fault n false t e h z = omega (arith, by-none n false z refl)
+
+pub no-fault : (n : ℕ) (b : Bool) (t : ℕ) → t ≡ stopped-by n b → (t ≡ 1 → ⊥) → n ≡ 0
+no-fault zero b t e h = refl
+no-fault (suc n) b t e h = absurd (h (e ∙ sym (by-fault (suc n) b (λ z. omega arith))))
+
+-- where there is no fault the other answers tell whether the word is a known function's
+module _ (n : ℕ) (known b : Bool) (t : ℕ) (is-b : b ≡ stops n known) (is-t : t ≡ stopped-by n b) (fine : n ≡ 0) where
+  pub some-known : t ≡ 2 → known ≡ true
+  some-known h = stops-fine n known fine ∙ sym is-b ∙ by b is-t
+    where
+      by : (x : Bool) → t ≡ stopped-by n x → x ≡ true
+      by true e = refl
+      by false e = absurd (omega (arith, by-none n false fine refl))
+
+  pub none-known : (t ≡ 2 → ⊥) → known ≡ false
+  none-known h = stops-fine n known fine ∙ sym is-b ∙ by b is-t
+    where
+      by : (x : Bool) → t ≡ stopped-by n x → x ≡ false
+      by true e = absurd (h (e ∙ sym (by-known n true fine refl)))
+      by false e = refl
+
 -- ---- the word
 
-module _ (e : rules.Around) (vis : ℕ → Bool) (k v : List ℕ) (w : Walk) (addr block : ℕ) (b : Bool) (is-b : b ≡ rules.is-known-function e (view k v (w .small)) addr) where
-  pub word-known : (r : Walk) → b ≡ true → Going k v w → r ≡ with-place w 2 (w .at) (w .block) → Is (rules.do-word e addr block (walk-of vis k v w)) vis k v r
+module _ (e : rules.Around) (vis : ℕ → Bool) (k v : List ℕ) (w : Walk) (addr block : ℕ) where
+  pub word-known : (r : Walk) → rules.is-known-function e (view k v (w .small)) addr ≡ true → Going k v w → r ≡ with-place w 2 (w .at) (w .block) → Is (rules.do-word e addr block (walk-of vis k v w)) vis k v r
   unfolding rules.do-word
-  word-known r h g q = rw (if-true (known h)) (placed-nowhere vis k v w g r q)
+  word-known r h g q = rw (if-true known) (placed-nowhere vis k v w g r q)
     where
-      known : b ≡ true → rules.is-known-function e (walk-of vis k v w .slices) addr ≡ true
-      known h = unfold walk-of in sym is-b ∙ h
+      known : rules.is-known-function e (walk-of vis k v w .slices) addr ≡ true
+      known = unfold walk-of in h
 
-  pub word-own : (k′ v′ : List ℕ) (r : Walk) (u : Outcome) → b ≡ false → outcome-for u ≡ images.told-at (e .image) addr .outcome → Is (rules.do-outcome e addr block (outcome-for u) (walk-of vis k v w)) vis k′ v′ r → Is (rules.do-word e addr block (walk-of vis k v w)) vis k′ v′ r
+  pub word-own : (k′ v′ : List ℕ) (r : Walk) (u : Outcome) → rules.is-known-function e (view k v (w .small)) addr ≡ false → outcome-for u ≡ images.told-at (e .image) addr .outcome → Is (rules.do-outcome e addr block (outcome-for u) (walk-of vis k v w)) vis k′ v′ r → Is (rules.do-word e addr block (walk-of vis k v w)) vis k′ v′ r
   unfolding rules.do-word
-  word-own k′ v′ r u h q i = rw (if-false (known h), ← q) i
+  word-own k′ v′ r u h q i = rw (if-false known, ← q) i
     where
-      known : b ≡ false → rules.is-known-function e (walk-of vis k v w .slices) addr ≡ false
-      known h = unfold walk-of in sym is-b ∙ h
+      known : rules.is-known-function e (walk-of vis k v w .slices) addr ≡ false
+      known = unfold walk-of in h
 
 -- ---- the whole
 

@@ -1,6 +1,6 @@
 // One word: prologue and epilogue, then what it does.
 ghost use mathlib.Core.Path.{_≡_};
-ghost use mathlib.Core.Bool.{Bool, true};
+ghost use mathlib.Core.Bool.{true};
 ghost use mathlib.Core.List.{List};
 ghost use Prim.Native.Nat.{ℕ};
 ghost use Rattle.rules.specs.Address.{address-of};
@@ -14,10 +14,11 @@ ghost use Rattle.obj.specs.Outcomes.{outcome-for, told-for};
 ghost use Rattle.lists.specs.View as lists;
 ghost use Rattle.lists.specs.View.{view, Fit};
 ghost use Rattle.executor.specs.Bits.{bit};
+ghost use Rattle.known.specs.Table.{Kept, Knows};
 ghost use Rattle.walk.specs.State.{walk-of, Going, Is, Listed};
 ghost use Rattle.callback_around.specs.Around.{Inside};
 ghost use Rattle.callback.specs.AfterBlock.{after-block};
-ghost use Rattle.callback.specs.Noted.{plain, noted, Noting, Notes};
+ghost use Rattle.callback.specs.Noted.{plain, noted, stops, stopped-by, Noting, Notes, IsNoted};
 ghost use Rattle.callback.specs.Lends.{Lends, LendsAll, Meets, Of, At, Aims, kind};
 use callback_around::around::Around;
 use callback_around::around::is_known_function;
@@ -76,32 +77,43 @@ fn is_plain(word: u32) -> bool
     (op != 19) & (op != 31) & (op != 32) & (op != 37)
 }
 
-// What is noted of a word before it does what it does. Nothing is copied for a plain word.
+// What is noted of a word before it does what it does: the counts, without the fault of its sequence tests, and that fault, 0 for none.
+struct Noted {
+    small: lists::Small,
+    fault: u32,
+}
+
+// Notes a word. Nothing is copied for a plain one.
 fn note(
     bytes: &[u8],
     k: &mut [u64],
     v: &mut [u64],
     code: obj::sections::Code,
-    w: walk::Walk,
+    s: lists::Small,
     addr: u64,
     word: u32,
     mark: bool,
-) -> walk::Walk
+) -> Noted
     requires bytes { ⌜ InBytes (now bytes) code ⌝ }
     requires at { ⌜ At code addr ⌝ }
-    requires going { ⌜ Going (now k) (now v) w ⌝ }
+    requires fits { ⌜ Fit (now k) (now v) s × (s .fault ≡ 0) ⌝ }
     requires meets { ⌜ Notes (now bytes) code addr word mark ⌝ }
-    ensures { λ r. ⌜ ((l : Lent) (vis : ℕ → Bool) → Noting l (now (bytes .entry)) code addr word mark → Is (noted (image l) addr (walk-of vis (now (k .entry)) (now (v .entry)) w)) vis (now (k .exit)) (now (v .exit)) r) ⌝ }
+    ensures { λ r. ⌜ ((l : Lent) → Noting l (now (bytes .entry)) code addr word mark → IsNoted (noted (image l) addr (view (now (k .entry)) (now (v .entry)) s)) (now (k .entry)) (now (k .exit)) (now (v .exit)) r) ⌝ }
 {
-    if is_plain(word) & (w.small.possible == 0) {
-        return w;
+    if is_plain(word) & (s.possible == 0) {
+        return Noted { small: s, fault: 0 };
     }
-    let s = check_word(bytes, code, w.small, addr, word, mark);
-    if s.fault != 0 {
-        return walk::with_small(w, s);
+    let t = check_word(bytes, code, s, addr, word, mark);
+    if t.fault != 0 {
+        return Noted {
+            small: s,
+            fault: t.fault,
+        };
     }
-    let t = note_word(k, v, s, addr, word);
-    walk::with_small(w, t)
+    Noted {
+        small: note_word(k, v, t, addr, word),
+        fault: 0,
+    }
 }
 
 // What is left of an outcome after its block has ended.
@@ -220,48 +232,38 @@ fn do_outcome(
     )
 }
 
-// A word of another known function is no function's to walk.
-fn do_word(
-    sections: &[u32],
-    bytes: &[u8],
-    functions: &[u32],
-    objects: &[u32],
+// Whether a word does nothing: its sequence tests met a fault, and no function is looked for, or it is another known function's.
+fn is_stopped(
     known: &[u64],
-    visited: &[u32; 2048],
-    k: &mut [u64],
-    v: &mut [u64],
-    a: Around,
-    w: walk::Walk,
+    n: usize,
+    k: &[u64],
+    v: &[u64],
+    s: lists::Small,
+    start: u64,
     addr: u64,
-    block: u64,
-    word: u32,
-    outcome: obj::outcomes::Outcome,
-) -> walk::Walk
-    requires lends { ⌜ Lends (now sections) (now bytes) (now functions) (now objects) (now known) a ⌝ }
-    requires going { ⌜ Going (now k) (now v) w ⌝ }
-    requires inside { ⌜ Inside addr ⌝ }
-    requires aims { ⌜ Aims (now sections) outcome ⌝ }
-    ensures { λ r. ⌜ ((e : rules.Around) → Of (now (sections .entry)) (now (bytes .entry)) (now (functions .entry)) (now (objects .entry)) (now (known .entry)) a e → word ≡ images.word (e .image) (address-of addr) → outcome-for outcome ≡ images.told-at (e .image) addr .outcome → Is (rules.do-word e addr block (walk-of (bit (now (visited .entry))) (now (k .entry)) (now (v .entry)) w)) (bit (now (visited .entry))) (now (k .exit)) (now (v .exit)) r) ⌝ }
+    fault: u32,
+) -> bool
+    requires kept { ⌜ Kept n (now known) ⌝ }
+    requires fit { ⌜ Fit (now k) (now v) s ⌝ }
+    ensures { λ r. ⌜ ((e : rules.Around) → Knows n (now (known .entry)) (e .entries) → e .start ≡ start → r ≡ stops fault (rules.is-known-function e (view (now (k .entry)) (now (v .entry)) s) addr)) ⌝ }
 {
-    if is_known_function(known, a.known, k, v, w.small, a.start, addr) {
-        return walk::met_nothing(w);
+    if fault == 0 {
+        return is_known_function(known, n, k, v, s, start, addr);
     }
-    do_outcome(
-        sections,
-        bytes,
-        functions,
-        objects,
-        known,
-        visited,
-        k,
-        v,
-        a,
-        w,
-        addr,
-        block,
-        word,
-        outcome,
-    )
+    true
+}
+
+// What stops a word: 1 the fault of its sequence tests, which is weighed first, 2 another known function, whose word it is; 0 nothing.
+fn first_test(fault: u32, stopped: bool) -> u32
+    ensures { λ r. ⌜ r ≡ stopped-by fault stopped ⌝ }
+{
+    if fault != 0 {
+        return 1;
+    }
+    if stopped {
+        return 2;
+    }
+    0
 }
 
 // The word at addr, of which it is known what it is and does.
@@ -286,12 +288,18 @@ fn meet_word(
     requires at { ⌜ At (a .code) addr ⌝ }
     ensures { λ r. ⌜ ((e : rules.Around) → Of (now (sections .entry)) (now (bytes .entry)) (now (functions .entry)) (now (objects .entry)) (now (known .entry)) a e → word ≡ images.word (e .image) (address-of addr) → told-for told ≡ images.told-at (e .image) addr → Is (rules.instruction-callback e addr block (walk-of (bit (now (visited .entry))) (now (k .entry)) (now (v .entry)) w)) (bit (now (visited .entry))) (now (k .exit)) (now (v .exit)) r) ⌝ }
 {
-    let r = note(bytes, k, v, a.code, w, addr, word, told.mark);
-    if r.small.fault != 0 {
-        return r;
+    let n = note(bytes, k, v, a.code, w.small, addr, word, told.mark);
+    let stopped = is_stopped(known, a.known, k, v, n.small, a.start, addr, n.fault);
+    let by = first_test(n.fault, stopped);
+    if by == 1 {
+        return walk::with_fault(w, n.fault);
+    }
+    let r = walk::with_small(w, n.small);
+    if by == 2 {
+        return walk::met_nothing(r);
     }
     let outcome = told.outcome;
-    do_word(
+    do_outcome(
         sections,
         bytes,
         functions,

@@ -1,15 +1,22 @@
-use Rattle.callback.proofs.PlainCases.{notes-of, noted-of, word-fails, word-does}
+use Rattle.callback.proofs.PlainCases.{notes-of, noted-of, noted-going, word-fails, word-nowhere, word-does}
 use Rattle.callback.proofs.Lends.{bytes-in, inside-of, aims-of, lends-of}
-use Rattle.walk.proofs.Answers.{going-on}
 use Rattle.rules.specs.Image as images
-use mathlib.Core.Path.{ap}
-use mathlib.Core.Bool.{false}
+use mathlib.Core.Path.{ap, _∙_}
 use borrow.Author.Needs.{needs}
 use Rattle.callback.proofs.words.meet_word.Statement.{statement}
 use Rattle.callback.proofs.words.meet_word.Tie as tie
 
 note-requires : tie.Need-note-requires
-note-requires c κs = let p = c .before .before .before .before .before .before .before .before .before .pre in let a = c .before .before .before .before .before .before .before .before .before .args in (bytes-in _ _ _ _ _ _ _ (p .0 .of), (p .1 .1, (p .1 .0, notes-of _ _ _ _ _ _ _ _ (a .told) (p .0))))
+note-requires c κs = let p = c .before .before .before .before .before .before .before .before .before .pre in let a = c .before .before .before .before .before .before .before .before .before .args in (bytes-in _ _ _ _ _ _ _ (p .0 .of), (p .1 .1, ((p .1 .0 .fits .lists, p .1 .0 .fine), notes-of _ _ _ _ _ _ _ _ (a .told) (p .0))))
+
+is-stopped-requires : tie.Need-is-stopped-requires
+is-stopped-requires c κs = let p = c .before .before .before .before .before .before .before .before .before .before .before .before .before .before .before .before .pre in let a = c .before .before .before .before .before .before .before .before .before .before .before .before .before .before .before .before .args in (p .0 .of .kept, (noted-of _ _ _ _ _ _ _ (p .0 .of) _ _ (a .told) (p .0 .is-word) (p .0 .is-told) _ _ _ _ _ _ (c .before .before .before .before .before .before .note .ensures)) .fit)
+
+first-test-requires : tie.Need-first-test-requires
+first-test-requires c κs = search needs
+
+with-fault-requires : tie.Need-with-fault-requires
+with-fault-requires c κs = search needs
 
 same-length : tie.Need-same-length
 same-length c = search needs
@@ -18,10 +25,13 @@ same-length-2 : tie.Need-same-length-2
 same-length-2 c = search needs
 
 returns : tie.Need-returns
-returns c = let a = c .before .before .before .before .before .before .before .before .before .before .before .before .before .before .before .before .args in λ e o q h. word-fails e _ _ _ _ _ _ _ _ _ (noted-of _ _ _ _ _ _ e o _ _ (a .told) q h _ _ _ _ _ _ _ (c .before .before .before .before .before .before .note .ensures)) (c .if1 .taken)
+returns c = let a = c .before .before .before .before .before .before .before .before .before .before .before .before .before .before .before .before .before .before .before .before .args in λ e o q h. word-fails e _ _ _ _ _ _ _ _ _ (noted-of _ _ _ _ _ _ e o _ _ (a .told) q h _ _ _ _ _ _ (c .before .before .before .before .before .before .before .before .before .before .note .ensures)) _ (c .before .before .before .is-stopped .ensures e (o .knows) (o .start)) _ (c .before .before .first-test .ensures) _ (c .before .if1 .taken) (c .with-fault .ensures)
 
-do-word-requires : tie.Need-do-word-requires
-do-word-requires c κs = let p = c .before .before .before .before .before .before .before .before .before .before .before .before .before .before .before .before .before .before .pre in let a = c .before .before .before .before .before .before .before .before .before .before .before .before .before .before .before .before .before .before .args in (lends-of _ _ _ _ _ _ _ (p .0 .of), (going-on (noted-of _ _ _ _ _ _ _ (p .0 .of) _ _ (a .told) (p .0 .is-word) (p .0 .is-told) (λ _. false) _ _ _ _ _ _ (c .before .before .before .before .before .before .before .before .note .ensures)) (c .before .before .if1 .left), (inside-of _ _ _ _ _ _ _ (p .0 .of) _ (p .1 .1), aims-of _ _ _ _ _ _ _ (p .0 .of) _ (a .told) (p .0 .is-told))))
+with-small-requires : tie.Need-with-small-requires
+with-small-requires c κs = search needs
+
+met-nothing-requires : tie.Need-met-nothing-requires
+met-nothing-requires c κs = search needs
 
 same-length-3 : tie.Need-same-length-3
 same-length-3 c = search needs
@@ -30,17 +40,37 @@ same-length-4 : tie.Need-same-length-4
 same-length-4 c = search needs
 
 returns-2 : tie.Need-returns-2
-returns-2 c = let a = c .before .before .before .before .before .before .before .before .before .before .before .before .before .before .before .before .before .before .before .before .before .before .before .args in λ e o q h. word-does e _ _ _ _ _ _ _ _ _ (noted-of _ _ _ _ _ _ e o _ _ (a .told) q h _ _ _ _ _ _ _ (c .before .before .before .before .before .before .before .before .before .before .before .before .before .note .ensures)) _ _ _ (c .before .before .before .before .before .before .before .if1 .left) (c .before .before .before .before .do-word .ensures e o q (ap (λ (y : images.Told). y .outcome) h))
+returns-2 c = let a = c .before .before .before .before .before .before .before .before .before .before .before .before .before .before .before .before .before .before .before .before .before .before .args in λ e o q h. word-nowhere e _ _ _ _ _ _ _ _ _ (noted-of _ _ _ _ _ _ e o _ _ (a .told) q h _ _ _ _ _ _ (c .before .before .before .before .before .before .before .before .before .before .before .before .note .ensures)) _ (c .before .before .before .before .before .is-stopped .ensures e (o .knows) (o .start)) _ (c .before .before .before .before .first-test .ensures) (c .before .before .before .if1 .left) _ (c .before .before .with-small .ensures) _ (c .before .if2 .taken) (c .before .before .before .before .before .before .before .before .before .before .before .before .before .before .before .before .before .before .before .before .before .before .pre .1 .0) (c .met-nothing .ensures)
+
+do-outcome-requires : tie.Need-do-outcome-requires
+do-outcome-requires c κs = let p = c .before .before .before .before .before .before .before .before .before .before .before .before .before .before .before .before .before .before .before .before .before .before .before .pre in let a = c .before .before .before .before .before .before .before .before .before .before .before .before .before .before .before .before .before .before .before .before .before .before .before .args in (lends-of _ _ _ _ _ _ _ (p .0 .of), (noted-going _ _ _ _ _ _ _ (noted-of _ _ _ _ _ _ _ (p .0 .of) _ _ (a .told) (p .0 .is-word) (p .0 .is-told) _ _ _ _ _ _ (c .before .before .before .before .before .before .before .before .before .before .before .before .before .note .ensures)) (p .1 .0) (c .before .before .before .with-small .ensures), (inside-of _ _ _ _ _ _ _ (p .0 .of) _ (p .1 .1), aims-of _ _ _ _ _ _ _ (p .0 .of) _ (a .told) (p .0 .is-told))))
+
+same-length-5 : tie.Need-same-length-5
+same-length-5 c = (c .before .before .before .k2 .given) ∙ (c .before .before .before .before .before .before .before .before .before .before .before .before .before .before .before .before .before .k .given)
+
+same-length-6 : tie.Need-same-length-6
+same-length-6 c = (c .before .v2 .given) ∙ (c .before .before .before .before .before .before .before .before .before .before .before .before .before .before .before .v .given)
+
+returns-3 : tie.Need-returns-3
+returns-3 c = let a = c .before .before .before .before .before .before .before .before .before .before .before .before .before .before .before .before .before .before .before .before .before .before .before .before .before .before .before .before .args in λ e o q h. word-does e _ _ _ _ _ _ _ _ _ (noted-of _ _ _ _ _ _ e o _ _ (a .told) q h _ _ _ _ _ _ (c .before .before .before .before .before .before .before .before .before .before .before .before .before .before .before .before .before .before .note .ensures)) _ (c .before .before .before .before .before .before .before .before .before .before .before .is-stopped .ensures e (o .knows) (o .start)) _ (c .before .before .before .before .before .before .before .before .before .before .first-test .ensures) (c .before .before .before .before .before .before .before .before .before .if1 .left) _ (c .before .before .before .before .before .before .before .before .with-small .ensures) _ _ _ (a .told .outcome) (c .before .before .before .before .before .before .before .if2 .left) (ap (λ (y : images.Told). y .outcome) h) (c .before .before .before .before .do-outcome .ensures e o q)
 
 pub meet-word-spec : {M : Type 1} → statement M
 meet-word-spec =
     tie.close
     (tie.spec
     note-requires
+    is-stopped-requires
+    first-test-requires
+    with-fault-requires
     same-length
     same-length-2
     returns
-    do-word-requires
+    with-small-requires
+    met-nothing-requires
     same-length-3
     same-length-4
-    returns-2)
+    returns-2
+    do-outcome-requires
+    same-length-5
+    same-length-6
+    returns-3)

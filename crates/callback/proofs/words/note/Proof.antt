@@ -7,22 +7,16 @@ is-plain-requires : tie.Need-is-plain-requires
 is-plain-requires c κs = search needs
 
 returns : tie.Need-returns
-returns c = λ l vis h. let p = c .before .before .before .before .before .before .pre in note-plain l _ _ _ _ _ h (p .1 .0) _ vis _ _ _ (c .before .before .is-plain .ensures) (p .1 .1 .0) (c .if1 .taken)
+returns c = λ l h. let p = c .before .before .before .before .before .before .pre in note-plain l _ _ _ _ _ h (p .1 .0) _ _ _ _ (c .before .before .is-plain .ensures) (p .1 .1 .0) (c .if1 .taken)
 
 check-word-requires : tie.Need-check-word-requires
 check-word-requires c κs = search needs
 
-with-small-requires : tie.Need-with-small-requires
-with-small-requires c κs = search needs
-
 returns-2 : tie.Need-returns-2
-returns-2 c = λ l vis h. let p = c .before .before .before .before .before .before .before .before .before .before .pre in noted-fails _ _ vis _ _ _ _ (c .before .before .before .check-word .ensures l _ _ (h .bytes) (h .code) (h .passed) (h .is-mark) (h .is-word) (p .1 .1 .0 .fits .lists)) _ (c .before .if2 .taken) (c .with-small .ensures)
+returns-2 c = λ l h. let p = c .before .before .before .before .before .before .before .before .before .pre in noted-fails _ _ _ _ _ _ (c .before .before .check-word .ensures l _ _ (h .bytes) (h .code) (h .passed) (h .is-mark) (h .is-word) (p .1 .1 .0 .0)) (p .1 .1 .0) (c .if2 .taken)
 
 note-word-requires : tie.Need-note-word-requires
-note-word-requires c κs = let p = c .before .before .before .before .before .before .before .before .before .before .before .pre in let h = p .1 .1 .1 .noting in (c .before .before .before .before .check-word .ensures (p .1 .1 .1 .lent) _ _ (h .bytes) (h .code) (h .passed) (h .is-mark) (h .is-word) (p .1 .1 .0 .fits .lists) .fit (c .before .before .if2 .left), c .before .before .if2 .left)
-
-with-small-requires-2 : tie.Need-with-small-requires-2
-with-small-requires-2 c κs = search needs
+note-word-requires c κs = let p = c .before .before .before .before .before .before .before .before .before .before .before .pre in let h = p .1 .1 .1 .noting in (c .before .before .before .before .check-word .ensures (p .1 .1 .1 .lent) _ _ (h .bytes) (h .code) (h .passed) (h .is-mark) (h .is-word) (p .1 .1 .0 .0) .fit (c .before .before .if2 .left), c .before .before .if2 .left)
 
 same-length : tie.Need-same-length
 same-length c = search needs
@@ -31,7 +25,7 @@ same-length-2 : tie.Need-same-length-2
 same-length-2 c = search needs
 
 returns-3 : tie.Need-returns-3
-returns-3 c = λ l vis h. let p = c .before .before .before .before .before .before .before .before .before .before .before .before .before .before .before .before .before .pre in noted-on _ _ vis _ _ _ _ (c .before .before .before .before .before .before .before .before .before .before .check-word .ensures l _ _ (h .bytes) (h .code) (h .passed) (h .is-mark) (h .is-word) (p .1 .1 .0 .fits .lists)) (p .1 .1 .0) _ _ _ _ (c .before .before .before .before .before .before .before .before .if2 .left) (c .before .before .before .before .before .note-word .ensures .0) (c .before .before .before .before .before .note-word .ensures .1 _ (h .is-word)) (c .with-small2 .ensures)
+returns-3 c = λ l h. let p = c .before .before .before .before .before .before .before .before .before .before .before .before .before .before .before .before .pre in noted-on _ _ _ _ _ _ (c .before .before .before .before .before .before .before .before .before .check-word .ensures l _ _ (h .bytes) (h .code) (h .passed) (h .is-mark) (h .is-word) (p .1 .1 .0 .0)) _ _ _ (c .before .before .before .before .before .before .before .if2 .left) (c .before .before .before .before .note-word .ensures .0) (c .before .before .before .before .note-word .ensures .1 _ (h .is-word))
 
 pub note-spec : {M : Type 1} → statement M
 note-spec =
@@ -40,10 +34,8 @@ note-spec =
     is-plain-requires
     returns
     check-word-requires
-    with-small-requires
     returns-2
     note-word-requires
-    with-small-requires-2
     same-length
     same-length-2
     returns-3)
