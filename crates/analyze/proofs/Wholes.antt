@@ -11,6 +11,7 @@ use Rattle.rules.specs.Blocks.{is-new, is-open}
 use Rattle.rules.specs.Slices.{Slices, add-block-start}
 use Rattle.rules.specs.Step as steps
 use Rattle.rules.specs.Analyze as rules
+use Rattle.rules.proofs.Binds.{bind-assoc}
 use Rattle.rules.proofs.Faults.{add-block-start-met}
 use Rattle.executor.specs.Bits.{bit}
 use Rattle.executor.specs.Pending.{pending}
@@ -72,11 +73,6 @@ module _ (e : steps.Around) (vis : ℕ → Bool) (k v : List ℕ) (w : Walk) (g 
     ends-found h q = rw (sym is-b ∙ h, sym is-o ∙ q) (answers k v _ refl (g .fine) (g .fits .lists))
 
 -- ---- the walk with no word visited
-
-bind-assoc : {A B C : Type 0} (m : Answer A) (f : A → Answer B) (h : B → Answer C) → (m >>= f >>= h) ≡ (m >>= λ x. f x >>= h)
-unfolding _>>=_
-bind-assoc (ok x) f h = refl
-bind-assoc (fault n) f h = refl
 
 pub analyze-walk-is : (e : steps.Around) (addr : ℕ) (s : Slices) → rules.analyze-walk e addr s ≡ (walk-and-passes e addr (rules.new-walk s) >>= rules.analyze-ends e)
 unfolding rules.analyze-walk walk-and-passes passes

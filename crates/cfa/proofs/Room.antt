@@ -16,9 +16,8 @@ use Rattle.rules.specs.Known.{Entry, entryOf, new-entry, is-unfinalized}
 use Rattle.rules.specs.Map as rules
 use Rattle.rules.specs.Map.{Capacity, Round, round}
 use Rattle.rules.proofs.Sizes.{limited-is}
-use Rattle.rules.proofs.Ordered.{length-put-old, has-at}
-use Rattle.entries.proofs.Lookups.{upper-there}
-use Rattle.entry_changes.proofs.Symbols.{add-there, There}
+use Rattle.rules.proofs.Ordered.{length-put-old}
+use Rattle.entry_changes.proofs.Symbols.{add-there, There, upper-key}
 
 module _ (cap : Capacity) where
   abbrev Fits : List Entry → Type 0
@@ -43,9 +42,6 @@ module _ (cap : Capacity) where
   -- another in the place of one
   put-fits : (a : Entry) (es : List Entry) → With (a .entry) es → Fits (put entryOf a es)
   put-fits a es w = let e : length (put entryOf a es) ≡ length es = length-put-old entryOf a es (w .there) in omega (arith, w .fits)
-
-  upper-key : (k : ℕ) (fs : List Entry) → has entryOf k fs ≡ true → upper entryOf k (new-entry k) fs .entry ≡ k
-  upper-key k fs t = ap (λ (x : Entry). x .entry) (upper-there k (new-entry k) (new-entry 0) fs t) ∙ has-at entryOf (new-entry 0) k fs t
 
   put-upper : (k : ℕ) (f : Entry → Entry) → ((x : Entry) → f x .entry ≡ x .entry) → (es : List Entry) → With k es → Fits (put entryOf (f (upper entryOf k (new-entry k) es)) es)
   put-upper k f e es w =

@@ -12,6 +12,7 @@ use Rattle.rules.specs.Image as images
 use Rattle.rules.specs.Given as given
 use Rattle.rules.specs.Known.{Entry, entryOf, new-entry, end-of-entry}
 use Rattle.rules.specs.Map as rules
+use Rattle.rules.proofs.Binds.{bind-assoc, bind-cong, bind-ok}
 use Rattle.rules.proofs.Faults.{Met, add-symbols-met, add-entry-met}
 use Rattle.rules.proofs.Passes.{code-from-low}
 use Rattle.obj.specs.Lent as lents
@@ -28,9 +29,6 @@ use Rattle.cfa_entries.specs.Adding.{Entered}
 use Rattle.cfa_entries.proofs.Each.{Gone, gone, lost}
 use Rattle.cfa_process.specs.Displayed.{Displays, Displayed}
 use Rattle.cfa_process.proofs.Walked.{lends}
-use Rattle.cfa_settle.proofs.Keeping.{bind-assoc}
-use Rattle.cfa_rounds.proofs.Rest.{bind-cong}
-use Rattle.cfa_rounds.proofs.Parts.{bind-ok}
 use Rattle.cfa_symbols.specs.Listed.{Lists, Listed}
 use Rattle.cfa_first.specs.Walks.{process-given, point, Put}
 

@@ -9,6 +9,7 @@ use Rattle.rules.specs.Loop as loops
 use Rattle.rules.specs.Known.{Entry}
 use Rattle.rules.specs.Map as rules
 use Rattle.rules.specs.Map.{Capacity}
+use Rattle.rules.proofs.Binds.{bind-cong, bind-ok}
 use Rattle.obj.specs.Lent.{Lent, image}
 use Rattle.obj.specs.declared.sections.Code.{Code}
 use Rattle.entries.specs.Table.{Holds, Good}
@@ -17,7 +18,7 @@ use Rattle.cfa_process.specs.Displayed.{Displays, Displayed}
 use Rattle.cfa_rounds.specs.declared.Run.{Run}
 use Rattle.cfa_rounds.specs.Ready.{Sane, Ready, Fit, Running}
 use Rattle.cfa_rounds.specs.Turns.{turn-of, rest, rest-with, rest-last}
-use Rattle.cfa_rounds.proofs.Rest.{bind-cong, rest-over, rest-early, rest-late}
+use Rattle.cfa_rounds.proofs.Rest.{rest-over, rest-early, rest-late}
 use Rattle.cfa_rounds.proofs.Steps.{checked}
 
 -- ---- where each begins
@@ -38,11 +39,6 @@ module _ (s b o f x sk : List ℕ) (c : Code) (cap : Capacity) (n : ℕ) (known 
       record { lent = g .lent; displays = g .displays; entries = g .entries; holds = g .holds; fit = fit-rounds (g .lent) cap stop i first (g .entries) (g .sane); fine = refl; few = omega arith; most = most; other = other }
 
 -- ---- what each comes to
-
-pub bind-ok : {A : Type 0} (a : Answer A) → (a >>= ok) ≡ a
-unfolding _>>=_
-bind-ok (ok x) = refl
-bind-ok (fault n) = refl
 
 module _ (s b o f x sk : List ℕ) (c : Code) (l : Lent) (q : Displays l s b o f x sk c) (cap : Capacity) where
   each-rest : (keys : List ℕ) (es : List Entry) → rest-with (image l) cap 0 keys 0 es ≡ rules.process-each (image l) cap keys es

@@ -14,31 +14,11 @@ use Rattle.rules.specs.Image.{Image}
 use Rattle.rules.specs.Known.{Entry, entryOf}
 use Rattle.rules.specs.Map as rules
 use Rattle.rules.specs.Map.{Capacity, Round, round, to-do, rounds-left, is-changed}
+use Rattle.rules.proofs.Binds.{bind-assoc, bind-cong, From, from}
 use Rattle.rules.proofs.Placed.{Checked, Table, finalize-functions-map}
 use Rattle.rules.proofs.Rounds as sound
 use Rattle.rules.proofs.RoundsEnd.{Moved, stays, moves, Passed, finalize-functions-passed, passed-rounded}
-use Rattle.cfa_settle.proofs.Keeping.{bind-assoc}
 use Rattle.cfa_rounds.specs.Turns.{Turn, turn-of, after, next-key, no-entry, take-round, turn, turn-with, rest, rest-at, rest-last, rest-with}
-
-pub bind-cong : {A B : Type 0} (a : Answer A) (f g : A → Answer B) → ((x : A) → a ≡ ok x → f x ≡ g x) → (a >>= f) ≡ (a >>= g)
-unfolding _>>=_
-bind-cong (ok x) f g h = h x refl
-bind-cong (fault n) f g h = refl
-
--- what an answer's result came from
-pub record From {A B : Type 0} (a : Answer A) (f : A → B) (y : B) : Type 0 where
-  pub by : A
-  pub is : a ≡ ok by
-  pub same : f by ≡ y
-
-is-ok : {A : Type 0} → Answer A → Type 0
-is-ok (ok x) = Unit {0}
-is-ok (fault n) = ⊥
-
-pub from : {A B : Type 0} (a : Answer A) (f : A → B) (y : B) → (a >>= λ x. ok (f x)) ≡ ok y → From a f y
-unfolding _>>=_ is-ok
-from (ok x) f y e = record { by = x; is = refl; same = of-good (subst (loops.Holds (λ z. f x ≡ z)) e (good refl)) }
-from (fault n) f y e = absurd (subst is-ok (sym e) tt)
 
 module _ (im : Image) (ch : Checked im) (cap : Capacity) where
   abbrev pub Late : List Entry → Type 0

@@ -14,6 +14,7 @@ use Rattle.rules.specs.Image.{Image}
 use Rattle.rules.specs.Known.{Entry}
 use Rattle.rules.specs.Map as rules
 use Rattle.rules.specs.Map.{Capacity, Round, round, to-do, weight, weights}
+use Rattle.rules.proofs.Binds.{bind-assoc, From, from}
 use Rattle.rules.proofs.Faults.{Met, process-function-at-met, finalize-functions-met, detect-new-functions-met}
 use Rattle.rules.proofs.Placed.{Checked}
 use Rattle.obj.specs.Lent.{Lent, image}
@@ -23,11 +24,10 @@ use Rattle.entries.proofs.Reading.{entries-are}
 use Rattle.entries.proofs.Rows.{count-is}
 use Rattle.cfa_entries.specs.Adding.{Entered}
 use Rattle.cfa_process.specs.Displayed.{Displays}
-use Rattle.cfa_settle.proofs.Keeping.{bind-assoc}
 use Rattle.cfa_rounds.specs.declared.Run.{Run}
 use Rattle.cfa_rounds.specs.Ready.{Sane, Ready, Fit, Running}
 use Rattle.cfa_rounds.specs.Turns.{Turn, turn-of, after, next-key, no-entry, take-round, turn, turn-with, rest, rest-with, Turned, IsTurn}
-use Rattle.cfa_rounds.proofs.Rest.{From, from, Kept, kept, now, now-same, quiet-kept, rest-over}
+use Rattle.cfa_rounds.proofs.Rest.{Kept, kept, now, now-same, quiet-kept, rest-over}
 use Rattle.cfa_rounds.proofs.Steps.{checked}
 
 -- ---- the measure

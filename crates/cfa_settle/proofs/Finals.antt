@@ -23,7 +23,7 @@ use Rattle.entries.specs.Table.{Holds, Good}
 use Rattle.cfa_process.specs.Displayed.{Knowing}
 use Rattle.cfa_detect.specs.declared.Detected.{Detected}
 use Rattle.cfa_settle.specs.Turns.{Ready, lowest, settled-lists, Turned}
-use Rattle.cfa_settle.proofs.Keeping.{bind-assoc}
+use Rattle.rules.proofs.Binds.{bind-assoc}
 
 -- ---- the entries that there are
 

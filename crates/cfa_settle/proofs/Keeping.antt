@@ -3,18 +3,18 @@ use Prim.Native.Nat.{ℕ}
 use mathlib.Core.Path.{_≡_, refl, sym, ap, _∙_}
 use mathlib.Core.Bool.{Bool, true, false}
 use mathlib.Core.List.{List}
-use lib.Dec.{lit≤}
 use lib.ListN.{take, drop}
 use borrow.Author.Tests.{eq-eqb, ne-eqb}
 use Rattle.rules.specs.Choice.{if-true, if-false, Answer, ok, fault, _>>=_}
-use Rattle.rules.specs.Loop.{result, number, bind-fails, if-fails}
+use Rattle.rules.specs.Loop.{bind-fails}
 use Rattle.rules.specs.Blocks.{last-end}
 use Rattle.rules.specs.Image.{Image}
 use Rattle.rules.specs.Slices.{Slices}
 use Rattle.rules.specs.Known.{Entry}
 use Rattle.rules.specs.Finalize.{finalize}
 use Rattle.rules.specs.Map as rules
-use Rattle.rules.proofs.Faults.{Met, limited-met}
+use Rattle.rules.proofs.Binds.{bind-assoc}
+use Rattle.rules.proofs.Faults.{Met, store-met}
 use Rattle.obj.specs.Lent.{Lent, image}
 use Rattle.lists.specs.View.{view, Fit, part}
 use Rattle.lists.specs.declared.Small.{Small}
@@ -25,12 +25,6 @@ use Rattle.cfa_entries.proofs.Each.{Gone, gone, lost}
 use Rattle.cfa_entries.proofs.Keys.{keys-met}
 use Rattle.cfa_store.proofs.Keeping.{added}
 use Rattle.cfa_settle.specs.Turns.{kept, Turned}
-
--- one step after the other, in whichever order they are joined
-pub bind-assoc : {A B C : Type 0} (a : Answer A) (f : A → Answer B) (g : B → Answer C) → (a >>= f >>= g) ≡ (a >>= λ x. f x >>= g)
-unfolding _>>=_
-bind-assoc (ok x) f g = refl
-bind-assoc (fault n) f g = refl
 
 -- ---- what it refers to, and the function itself
 
@@ -54,12 +48,8 @@ module _ (l : Lent) (room : ℕ) (k v : List ℕ) (s : Small) (fit : Fit k v s) 
 
 -- ---- finalized
 
-store-met : (cap : rules.Capacity) (k : ℕ) (s : Slices) (end : ℕ) (es : List Entry) → Met (rules.store cap k s end es)
-unfolding rules.store rules.add-entry rules.fitting
-store-met cap k s end es = bind-fails (if-fails (λ _. result) (λ _. limited-met _ _)) (λ _. if-fails (λ _. result) (λ _. number (lit≤ tt, lit≤ tt)))
-
 kept-met : (im : Image) (cap : rules.Capacity) (k : ℕ) (t : Slices) (es : List Entry) → Met (kept im cap k t es)
-kept-met im cap k t es = bind-fails (keys-met im cap (t .references) es) (λ fs. store-met cap k t (last-end (t .blocks)) fs)
+kept-met im cap k t es = bind-fails (keys-met im cap (t .references) es) (λ fs. store-met im cap k t (last-end (t .blocks)) fs)
 
 module _ (l : Lent) (cap : rules.Capacity) (key : ℕ) (x : Slices) (es : List Entry) (c : Bool) (k v : List ℕ) (t : Small) (f : Listed (finalize (image l) es x) k v t) where
   pub final-fails : (n : ℕ) (known infos lists : List ℕ) → (t .fault ≡ 0 → ⊥) → Turned (rules.keep-settled (image l) cap key x (rules.round c es)) known infos lists (record { count = n; changed = false; fault = t .fault })

@@ -29,15 +29,15 @@ unfolding _>>=_
 same-after k (ok fs) t F G e = e fs t
 same-after k (fault m) t F G e = refl
 
+pub upper-key : (k : ℕ) (fs : List Entry) → has entryOf k fs ≡ true → upper entryOf k (new-entry k) fs .entry ≡ k
+upper-key k fs t = ap (λ (x : Entry). x .entry) (upper-there k (new-entry k) (new-entry 0) fs t) ∙ has-at entryOf (new-entry 0) k fs t
+
 module _ (im : Image) (cap : Capacity) (f : Symbol) where
   abbrev k : ℕ
   k = key (image.code-number im) (f .address)
-
-  upper-key : (fs : List Entry) → has entryOf k fs ≡ true → upper entryOf k (new-entry k) fs .entry ≡ k
-  upper-key fs t = ap (λ (x : Entry). x .entry) (upper-there k (new-entry k) (new-entry 0) fs t) ∙ has-at entryOf (new-entry 0) k fs t
 
   pub symbol-is : (es : List Entry) → add-symbol im cap f es ≡ end-set cap k (if (f .known) (k + f .size) 0) es
   unfolding add-symbol end-set
   symbol-is es =
       same-after k (add-entry cap k es) (add-there cap k es) (λ fs. ok (put entryOf (set-end im cap f (upper entryOf k (new-entry k) fs)) fs)) (λ fs. ok (put entryOf (with-end (if (f .known) (k + f .size) 0) (upper entryOf k (new-entry k) fs)) fs))
-      (λ fs t. ap (λ (j : ℕ). ok (put entryOf (with-end (if (f .known) (j + f .size) 0) (upper entryOf k (new-entry k) fs)) fs)) (upper-key fs t))
+      (λ fs t. ap (λ (j : ℕ). ok (put entryOf (with-end (if (f .known) (j + f .size) 0) (upper entryOf k (new-entry k) fs)) fs)) (upper-key k fs t))

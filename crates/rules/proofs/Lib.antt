@@ -1,3 +1,4 @@
+pub mod Binds
 pub mod Ordered
 pub mod Rows
 pub mod Tests
