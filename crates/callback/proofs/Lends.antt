@@ -33,7 +33,7 @@ use Rattle.obj.proofs.Ready.{few-sections, whole-functions, functions-rise, obj
 use Rattle.obj.proofs.Rows.{rows-length}
 use Rattle.obj.proofs.Alike.{alike-seen}
 use Rattle.analysis.specs.Tables as tables
-use Rattle.sequences.specs.Code.{CodeWords}
+use Rattle.prologues.specs.Code.{CodeWords}
 use Rattle.known.specs.Table.{Kept, Knows}
 use Rattle.lists.specs.View.{view, Fit}
 use Rattle.lists.specs.declared.Small.{Small}

@@ -25,7 +25,7 @@ use Rattle.obj.specs.declared.outcomes.Outcome.the-variants.{GoOn, Illegal, Unk
 use Rattle.lists.specs.View as lists
 use Rattle.lists.specs.View.{view, Fit}
 use Rattle.lists.specs.declared.Small.{Small}
-use Rattle.sequences.specs.Code.{CodeWords}
+use Rattle.prologues.specs.Code.{CodeWords}
 use Rattle.walk.specs.State.{walk-of, place-of, with-small, with-place, Going, Is, Listed}
 use Rattle.walk.specs.declared.Walk.{Walk}
 use Rattle.walk.proofs.Answers.{is-fault, stopped, onward, refit}

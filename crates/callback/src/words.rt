@@ -55,7 +55,7 @@ fn check_word(
 {
     let from = code.offset;
     let to = code.offset + code.size as usize;
-    sequences::check_sequences(&bytes[from..to], code.base, s, addr, word, mark)
+    prologues::check_sequences(&bytes[from..to], code.base, s, addr, word, mark)
 }
 
 // Returns are noted, and the word is no longer a possible block.

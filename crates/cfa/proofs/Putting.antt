@@ -31,30 +31,30 @@ use Rattle.cfa_entries.proofs.Each.{Gone, gone}
 use Rattle.cfa_process.specs.Displayed.{Displays}
 use Rattle.results.specs.Rows.{result-row, padded, Results, map-of}
 use Rattle.results.proofs.Reading.{map-read}
-use Rattle.cfa.specs.Maps.{room-of, map, Left, Leaves, Right, Answers, Told, Counted, Handed, Ended}
+use Rattle.cfa.specs.Maps.{room-of, answer-of, Left, Leaves, Right, Answers, Told, Counted, Handed, Ended}
 use Rattle.cfa.specs.declared.Map.{Map}
 use Rattle.cfa.proofs.Room.{detect-fits}
 
 -- ---- put into the lists
 
 module _ (known infos : List ℕ) (r : Entries) (rows lists : List ℕ) where
-  put-zeros : (a : Answer (List Entry)) → Held a (r .count) known infos lists (r .fault) → (r .fault ≡ 0 → ⊥) → (rows′ lists′ : List ℕ) → rows′ ≡ replicate (length rows) 0 → lists′ ≡ replicate (length lists) 0 → Leaves a rows lists rows′ lists′ (map (r .fault) 0 0)
+  put-zeros : (a : Answer (List Entry)) → Held a (r .count) known infos lists (r .fault) → (r .fault ≡ 0 → ⊥) → (rows′ lists′ : List ℕ) → rows′ ≡ replicate (length rows) 0 → lists′ ≡ replicate (length lists) 0 → Leaves a rows lists rows′ lists′ (answer-of (r .fault) 0 0)
   put-zeros (ok es) t z rows′ lists′ p q = absurd (z (t .1))
-  put-zeros (fault m) t z rows′ lists′ p q = record { left = (ap (λ (n : ℕ). map n 0 0) t, p, q); right = tt }
+  put-zeros (fault m) t z rows′ lists′ p q = record { left = (ap (λ (n : ℕ). answer-of n 0 0) t, p, q); right = tt }
 
   zeros : (xs out : List ℕ) → out ≡ padded (take 0 xs) (length xs) → out ≡ replicate (length xs) 0
   zeros xs out e = let z : length xs - 0 ≡ length xs = omega arith in e ∙ ap (λ (m : ℕ). replicate m 0) z
 
-  pub left-zero : (r .fault ≡ 0 → ⊥) → (rows′ lists′ : List ℕ) → rows′ ≡ padded (take 0 rows) (length rows) → lists′ ≡ padded (take 0 lists) (length lists) → (a : Answer (List Entry)) → Met a → Entered a (r .count) known infos lists (r .fault) → Leaves a rows lists rows′ lists′ (map (r .fault) 0 0)
+  pub left-zero : (r .fault ≡ 0 → ⊥) → (rows′ lists′ : List ℕ) → rows′ ≡ padded (take 0 rows) (length rows) → lists′ ≡ padded (take 0 lists) (length lists) → (a : Answer (List Entry)) → Met a → Entered a (r .count) known infos lists (r .fault) → Leaves a rows lists rows′ lists′ (answer-of (r .fault) 0 0)
   left-zero z rows′ lists′ p q a m e = put-zeros a (e .told) z rows′ lists′ (zeros rows rows′ p) (zeros lists lists′ q)
 
-  put-entries : (a : Answer (List Entry)) → Met a → Held a (r .count) known infos lists (r .fault) → r .fault ≡ 0 → (rows′ lists′ : List ℕ) (total : ℕ) → ((es : List Entry) → Holds (r .count) known infos lists es → Results es rows lists rows′ lists′ total) → Leaves a rows lists rows′ lists′ (map 0 (r .count) total)
+  put-entries : (a : Answer (List Entry)) → Met a → Held a (r .count) known infos lists (r .fault) → r .fault ≡ 0 → (rows′ lists′ : List ℕ) (total : ℕ) → ((es : List Entry) → Holds (r .count) known infos lists es → Results es rows lists rows′ lists′ total) → Leaves a rows lists rows′ lists′ (answer-of 0 (r .count) total)
   put-entries (ok es) m t z rows′ lists′ total made =
       let p : Results es rows lists rows′ lists′ total = made es (t .0) in
-      record { left = (ap₂ (λ (n k : ℕ). map 0 n k) (sym (count-is (r .count) known infos lists es (t .0))) (p .total-is), p .rows-are, p .lists-are); right = t .0 .right }
+      record { left = (ap₂ (λ (n k : ℕ). answer-of 0 n k) (sym (count-is (r .count) known infos lists es (t .0))) (p .total-is), p .rows-are, p .lists-are); right = t .0 .right }
   put-entries (fault n) (number h) t z rows′ lists′ total made = absurd (omega (arith, h .0, t, z))
 
-  pub left-map : r .fault ≡ 0 → (rows′ lists′ : List ℕ) (total : ℕ) → ((es : List Entry) → Holds (r .count) known infos lists es → Results es rows lists rows′ lists′ total) → (a : Answer (List Entry)) → Met a → Entered a (r .count) known infos lists (r .fault) → Leaves a rows lists rows′ lists′ (map 0 (r .count) total)
+  pub left-map : r .fault ≡ 0 → (rows′ lists′ : List ℕ) (total : ℕ) → ((es : List Entry) → Holds (r .count) known infos lists es → Results es rows lists rows′ lists′ total) → (a : Answer (List Entry)) → Met a → Entered a (r .count) known infos lists (r .fault) → Leaves a rows lists rows′ lists′ (answer-of 0 (r .count) total)
   left-map z rows′ lists′ total made a m e = put-entries a m (e .told) z rows′ lists′ total made
 
 -- only the length of a list counts
@@ -94,13 +94,13 @@ module _ (l : Lent) (rows lists : List ℕ) where
   abbrev answer : Answer (List Entry)
   answer = run (given l) (room-of rows lists)
 
-  pub told-refused : (n : ℕ) → n ≡ check (given l) → (n ≡ 0 → ⊥) → Told answer rows lists rows lists (map n 0 0)
+  pub told-refused : (n : ℕ) → n ≡ check (given l) → (n ≡ 0 → ⊥) → Told answer rows lists rows lists (answer-of n 0 0)
   told-refused n e z =
       let q : answer ≡ fault n = run-refuses (given l) (room-of rows lists) (λ y. z (e ∙ y)) ∙ ap fault (sym e) in
       let t : leb n 3 ≡ true = le-leb n 3 (rw (← e) at (check-most (given l))) in
       rw q (record { answers = (refl, sym (if-true t rows (replicate (length rows) 0)), sym (if-true t lists (replicate (length lists) 0))); right = tt })
 
-  pub counted-refused : (n : ℕ) → (n ≡ 0 → ⊥) → Counted (image l) rows lists (map n 0 0)
+  pub counted-refused : (n : ℕ) → (n ≡ 0 → ⊥) → Counted (image l) rows lists (answer-of n 0 0)
   counted-refused n z = record { accounted = λ y. absurd (z y) }
 
   module _ (passed : check (given l) ≡ 0) (rows′ lists′ : List ℕ) (r : Map) (made : Leaves (rules.detect (image l) (room-of rows lists)) rows lists rows′ lists′ r) where

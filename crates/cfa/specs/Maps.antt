@@ -21,16 +21,16 @@ abbrev pub room-of : List ℕ → List ℕ → Capacity
 room-of rows lists = record { entries = length rows / 10; numbers = length lists }
 
 -- the number, and how many entries and numbers there are
-abbrev pub map : ℕ → ℕ → ℕ → Map
-map n e m = record { number = n; entries = e; numbers = m }
+abbrev pub answer-of : ℕ → ℕ → ℕ → Map
+answer-of n e m = record { number = n; entries = e; numbers = m }
 
 -- the answer of a walk: a map and zeros past it, or a fault and zeros
 abbrev pub Left : Answer (List Entry) → List ℕ → List ℕ → List ℕ → List ℕ → Map → Type 0
 Left (ok es) rows₀ lists₀ rows lists r =
-    (r ≡ map 0 (length es) (length (flat entry-numbers es))) × (rows ≡ padded (flat result-row es) (length rows₀)) ×
+    (r ≡ answer-of 0 (length es) (length (flat entry-numbers es))) × (rows ≡ padded (flat result-row es) (length rows₀)) ×
     (lists ≡ padded (flat entry-numbers es) (length lists₀))
 Left (fault n) rows₀ lists₀ rows lists r =
-    (r ≡ map n 0 0) × (rows ≡ replicate (length rows₀) 0) × (lists ≡ replicate (length lists₀) 0)
+    (r ≡ answer-of n 0 0) × (rows ≡ replicate (length rows₀) 0) × (lists ≡ replicate (length lists₀) 0)
 
 -- each entry's lists are within their limits and ascend
 abbrev pub Right : Answer (List Entry) → Type 0
@@ -44,10 +44,10 @@ pub record Leaves (a : Answer (List Entry)) (rows₀ lists₀ rows lists : List 
 -- the whole: 1 to 3 leave the lists as they were
 abbrev pub Answers : Answer (List Entry) → List ℕ → List ℕ → List ℕ → List ℕ → Map → Type 0
 Answers (ok es) rows₀ lists₀ rows lists r =
-    (r ≡ map 0 (length es) (length (flat entry-numbers es))) × (rows ≡ padded (flat result-row es) (length rows₀)) ×
+    (r ≡ answer-of 0 (length es) (length (flat entry-numbers es))) × (rows ≡ padded (flat result-row es) (length rows₀)) ×
     (lists ≡ padded (flat entry-numbers es) (length lists₀))
 Answers (fault n) rows₀ lists₀ rows lists r =
-    (r ≡ map n 0 0) × (rows ≡ if (leb n 3) rows₀ (replicate (length rows₀) 0)) × (lists ≡ if (leb n 3) lists₀ (replicate (length lists₀) 0))
+    (r ≡ answer-of n 0 0) × (rows ≡ if (leb n 3) rows₀ (replicate (length rows₀) 0)) × (lists ≡ if (leb n 3) lists₀ (replicate (length lists₀) 0))
 
 pub record Told (a : Answer (List Entry)) (rows₀ lists₀ rows lists : List ℕ) (r : Map) : Type 0 where
   pub answers : Answers a rows₀ lists₀ rows lists r

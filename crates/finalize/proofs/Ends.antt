@@ -32,7 +32,7 @@ use Rattle.lists.specs.Groups.{ways-rows}
 use Rattle.lists.specs.declared.Small.{Small}
 use Rattle.walk.specs.State.{faulting, Listed}
 use Rattle.walk.proofs.Answers.{listed, listed-ok, listed-fault, refit}
-use Rattle.sequences.proofs.Notes.{stops, goes}
+use Rattle.prologues.proofs.Notes.{stops, goes}
 use Rattle.finalize.specs.Checked.{Checked}
 
 -- ---- the two words

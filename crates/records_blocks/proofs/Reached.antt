@@ -6,7 +6,7 @@ use native.Mathlib.Omega.{arith}
 use native.Mathlib.Numerals.{add-one}
 use lib.ListN.{length, take, drop, getD, set, length-set, take-append-drop}
 use lib.Seq.{drop-cons, drop-set-lt, take-suc-set}
-use Rattle.records_blocks.specs.Sweep.{none, turned, after, swept}
+use Rattle.records_blocks.specs.Sweep.{no-block, turned, after, swept}
 use Rattle.records_blocks.specs.declared.Block.{Block}
 use Rattle.records_blocks.specs.declared.Carry.{Carry}
 
@@ -25,21 +25,21 @@ module _ (n : ℕ) (c : Carry) (ys : List Block) (room : n ≤ length ys) where
     pub inside : i < n → i < length zs
     inside l = omega (arith, s .long)
 
-    pub step : i < n → Reached n c ys (i + 1) (turned d i (getD zs i none)) (set zs i (turned d i (getD zs i none) .out))
+    pub step : i < n → Reached n c ys (i + 1) (turned d i (getD zs i no-block)) (set zs i (turned d i (getD zs i no-block) .out))
     step l =
         let k : i < length zs = inside l in
         let e : n - i ≡ suc (n - (i + 1)) = omega arith in
-        let cons : drop i zs ≡ getD zs i none ∷ drop (i + 1) zs = rw (add-one i) (drop-cons zs i none k) in
+        let cons : drop i zs ≡ getD zs i no-block ∷ drop (i + 1) zs = rw (add-one i) (drop-cons zs i no-block k) in
         let below : i < i + 1 = omega arith in
-        let b : Block = turned d i (getD zs i none) .out in
+        let b : Block = turned d i (getD zs i no-block) .out in
         let same : drop (i + 1) (set zs i b) ≡ drop (i + 1) zs = drop-set-lt (i + 1) zs i b below in
         let front : take (i + 1) (set zs i b) ≡ take i zs ++ (b ∷ []) = rw (add-one i) (take-suc-set zs i b k) in
         record {
           within = omega arith;
           long = length-set zs i b ∙ s .long;
           carried = rw same (rw (e, cons) at (s .carried));
-          made = rw same (ap (λ (l : List Block). l ++ swept (n - (i + 1)) (i + 1) (turned d i (getD zs i none)) (drop (i + 1) zs)) front
-              ∙ (append-assoc (take i zs) (b ∷ []) (swept (n - (i + 1)) (i + 1) (turned d i (getD zs i none)) (drop (i + 1) zs)) ∙ (rw (e, cons) at (s .made))));
+          made = rw same (ap (λ (l : List Block). l ++ swept (n - (i + 1)) (i + 1) (turned d i (getD zs i no-block)) (drop (i + 1) zs)) front
+              ∙ (append-assoc (take i zs) (b ∷ []) (swept (n - (i + 1)) (i + 1) (turned d i (getD zs i no-block)) (drop (i + 1) zs)) ∙ (rw (e, cons) at (s .made))));
         }
 
     pub at-end : n ≤ i → (d ≡ after n 0 c ys) × (zs ≡ swept n 0 c ys)

@@ -14,8 +14,8 @@ abbrev pub entry : ℕ → ℕ → Block
 entry s e = record { start = s; end = e }
 
 -- what is read past the end of a list
-abbrev pub none : Block
-none = entry 0 0
+abbrev pub no-block : Block
+no-block = entry 0 0
 
 -- the block of `rules` that a record holds
 abbrev pub row : Block → Row

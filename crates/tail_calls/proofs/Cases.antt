@@ -25,8 +25,8 @@ use Rattle.obj.specs.declared.sections.Code.{Code}
 use Rattle.known.specs.Table.{Knows}
 use Rattle.lists.specs.View.{view}
 use Rattle.lists.specs.declared.Small.{Small}
-use Rattle.sequences.specs.Code.{CodeWords}
-use Rattle.sequences.proofs.Scan.{from-offset}
+use Rattle.prologues.specs.Code.{CodeWords}
+use Rattle.prologues.proofs.Scan.{from-offset}
 use Rattle.callback.specs.Around.{Alike}
 use Rattle.callback_around.specs.declared.around.Around.{Around}
 use Rattle.callback.specs.Lends.{Of}

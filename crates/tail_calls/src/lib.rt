@@ -115,11 +115,11 @@ pub fn prologue_before(bytes: &[u8], a: callback::around::Around, addr: u64) -> 
     let code = a.code;
     let first = code.offset;
     let past = code.offset + code.size as usize;
-    let from = sequences::offset(code.base, (a.start % 0x1_0000_0000) as u32);
+    let from = prologues::offset(code.base, (a.start % 0x1_0000_0000) as u32);
     prologue_among(
         &bytes[first..past],
         from,
-        sequences::words_between(a.start, addr),
+        prologues::words_between(a.start, addr),
     )
 }
 

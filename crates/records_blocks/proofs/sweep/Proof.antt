@@ -47,7 +47,7 @@ use denote.Triple.Clauses.{ensured, lasts}
 use denote.Triple.Table.{entered, cited}
 use denote.Triple.Walked.{says, needs, Stays, stay-slice, stay-none, walkOf, goes-slice, goes-none, Walks, ends-at, walked, walk-meets}
 use denote.Exit.{yes}
-use Rattle.records_blocks.specs.Sweep.{none, turned, after, swept}
+use Rattle.records_blocks.specs.Sweep.{no-block, turned, after, swept}
 use Rattle.records_blocks.specs.declared.Block.{Block}
 use Rattle.records_blocks.specs.declared.Carry.{Carry}
 use Rattle.records_blocks.proofs.Rows.{scaled}
@@ -176,7 +176,7 @@ module _ {M : Type 1} (𝓤 : URA M) (H : Heap 𝓤) (A : Atoms 𝓤) (W : Given
           assigns ! (bin ! (load ! (from ! (stop !)) (look ! 14 refl)) (lit ! tt) (record { fits = off less })) (from ! (stop !)) (init ! 10 refl (tt, record { fits = off less })) $
           assigns ! (bin ! (load ! (from ! (fld ! refl (stop !))) (look-in ! 22 (sub ! 0 refl (whole !)))) (load ! (from ! (stop !)) (look ! 10 refl)) tt) (from ! (stop !)) (init ! 8 refl (tt, tt)) $
           rewrite ! 8 (λ (p : ℕ). ‵ (fat fullShare tyPtr l₈ 0 (vptr b p))) (sym (place-is 16 o (s .i))) refl $
-          elem-out ! T.the-row (Is T.the-row) (shows 𝓤 H A T.the-row) vals (LL.tells T.the-type T′.the-laws) fullShare (s .zs) (s .i) none b o (in-row less) (λ g.
+          elem-out ! T.the-row (Is T.the-row) (shows 𝓤 H A T.the-row) vals (LL.tells T.the-type T′.the-laws) fullShare (s .zs) (s .i) no-block b o (in-row less) (λ g.
           -- [the block; what it owns; the others; the open borrow; obs; auth; _10; …; _9; …; _8; …; _7; …; _6; …; _5; …; _4; …; _3; …; _2; …; _1; …; room for _0; …]
           assigns ! (of-opd ! (load ! (from ! (hop ! (look ! 10 refl) (stop !))) (look-raw ! 0 refl))) (from ! (stop !)) (init ! 8 refl (LL.lawful T.the-type T′.the-laws 𝓤 H A W .typed y _ g .0)) $
           owned ! P.the-row (Is P.the-row) (LL.makes P.the-type P′.the-plain 𝓤 H A) (s .d) _ (s .is) $ use1 W (raw (Turn 𝓤 H A at-mem run .pre (to-turn (s .d) (s .i) y))) (goes-turn (s .d) (s .i) y (lt-of-le-of-lt (s .reached .within) n-fits) g) $
@@ -204,7 +204,7 @@ module _ {M : Type 1} (𝓤 : URA M) (H : Heap 𝓤) (A : Atoms 𝓤) (W : Given
           keep ! (0 ∷ 1 ∷ 2 ∷ []) $ by ! (exits (s .d) (s .zs) (s .is) (s .reached .long) (at-end n c ys fit (s .i) (s .d) (s .zs) (s .reached) (nltb→le (s .i) n over))))
         where
           y : Block
-          y = getD (s .zs) (s .i) none
+          y = getD (s .zs) (s .i) no-block
 
           in-row : T (ltb (s .i) n) → s .i < length (s .zs)
           in-row less = inside n c ys fit (s .i) (s .d) (s .zs) (s .reached) (ltb→lt (s .i) n less)

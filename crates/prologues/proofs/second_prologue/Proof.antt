@@ -1,8 +1,8 @@
 use mathlib.Core.Path.{refl}
-use Rattle.sequences.proofs.Notes.{prologue-below, terminator-between, none-between}
+use Rattle.prologues.proofs.Notes.{prologue-below, terminator-between, none-between}
 use borrow.Author.Needs.{needs}
-use Rattle.sequences.proofs.second_prologue.Statement.{statement}
-use Rattle.sequences.proofs.second_prologue.Tie as tie
+use Rattle.prologues.proofs.second_prologue.Statement.{statement}
+use Rattle.prologues.proofs.second_prologue.Tie as tie
 
 with-fault-requires : tie.Need-with-fault-requires
 with-fault-requires c κs = search needs

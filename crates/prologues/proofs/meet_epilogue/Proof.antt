@@ -1,7 +1,7 @@
-use Rattle.sequences.proofs.Notes.{first-epilogue, same-epilogue, other-epilogue}
+use Rattle.prologues.proofs.Notes.{first-epilogue, same-epilogue, other-epilogue}
 use borrow.Author.Needs.{needs}
-use Rattle.sequences.proofs.meet_epilogue.Statement.{statement}
-use Rattle.sequences.proofs.meet_epilogue.Tie as tie
+use Rattle.prologues.proofs.meet_epilogue.Statement.{statement}
+use Rattle.prologues.proofs.meet_epilogue.Tie as tie
 
 returns : tie.Need-returns
 returns c = first-epilogue _ _ (c .before .before .pre) (c .if1 .taken)

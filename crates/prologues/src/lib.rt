@@ -11,7 +11,7 @@ ghost use Rattle.rules.specs.Image.{Image, told-at};
 ghost use Rattle.rules.specs.Step as rules;
 ghost use Rattle.lists.specs.View.{view, Fit};
 ghost use Rattle.walk.specs.State.{faulting, Listed, Low};
-ghost use Rattle.sequences.specs.Code.{Notes, Lies, CheckedIn, Checked};
+ghost use Rattle.prologues.specs.Code.{Notes, Lies, CheckedIn, Checked};
 
 fn with_fault(s: lists::Small, n: u32) -> lists::Small
     ensures { λ r. ⌜ r ≡ faulting s n ⌝ }

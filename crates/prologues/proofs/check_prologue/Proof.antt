@@ -1,7 +1,7 @@
-use Rattle.sequences.proofs.Notes.{load-met, prologue-met, no-prologue}
+use Rattle.prologues.proofs.Notes.{load-met, prologue-met, no-prologue}
 use borrow.Author.Needs.{needs}
-use Rattle.sequences.proofs.check_prologue.Statement.{statement}
-use Rattle.sequences.proofs.check_prologue.Tie as tie
+use Rattle.prologues.proofs.check_prologue.Statement.{statement}
+use Rattle.prologues.proofs.check_prologue.Tie as tie
 
 is-lwz-requires : tie.Need-is-lwz-requires
 is-lwz-requires c κs = search needs

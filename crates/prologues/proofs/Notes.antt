@@ -20,8 +20,8 @@ use Rattle.lists.specs.View.{view, Fit}
 use Rattle.lists.specs.declared.Small.{Small}
 use Rattle.walk.specs.State.{faulting, Listed}
 use Rattle.walk.proofs.Answers.{listed-ok, listed-fault, refit}
-use Rattle.sequences.specs.Code.{CodeWords, Lies, Notes, NotesIn, CheckedIn, Checked}
-use Rattle.sequences.proofs.Scan.{from-word, between-is}
+use Rattle.prologues.specs.Code.{CodeWords, Lies, Notes, NotesIn, CheckedIn, Checked}
+use Rattle.prologues.proofs.Scan.{from-word, between-is}
 
 five : _≡_ {A = ℕ} 5 0 → ⊥
 five z = absurd (omega arith)

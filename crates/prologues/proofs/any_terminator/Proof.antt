@@ -1,8 +1,8 @@
 use native.Mathlib.Omega.{arith}
-use Rattle.sequences.proofs.Scan.{Scanning, scan-first, scan-none, scan-past, scan-found, scan-on}
+use Rattle.prologues.proofs.Scan.{Scanning, scan-first, scan-none, scan-past, scan-found, scan-on}
 use borrow.Author.Needs.{needs}
-use Rattle.sequences.proofs.any_terminator.Statement.{statement}
-use Rattle.sequences.proofs.any_terminator.Tie as tie
+use Rattle.prologues.proofs.any_terminator.Statement.{statement}
+use Rattle.prologues.proofs.any_terminator.Tie as tie
 
 abbrev Inv-loop : tie.InvT-loop
 Inv-loop words from n at₀ left₀ at left = Scanning words from n at left

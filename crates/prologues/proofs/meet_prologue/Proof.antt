@@ -1,7 +1,7 @@
-use Rattle.sequences.proofs.Notes.{first-prologue, another-prologue}
+use Rattle.prologues.proofs.Notes.{first-prologue, another-prologue}
 use borrow.Author.Needs.{needs}
-use Rattle.sequences.proofs.meet_prologue.Statement.{statement}
-use Rattle.sequences.proofs.meet_prologue.Tie as tie
+use Rattle.prologues.proofs.meet_prologue.Statement.{statement}
+use Rattle.prologues.proofs.meet_prologue.Tie as tie
 
 returns : tie.Need-returns
 returns c = first-prologue _ _ _ _ (c .before .before .before .pre .1) (c .if1 .taken)

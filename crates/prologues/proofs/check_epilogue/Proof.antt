@@ -1,7 +1,7 @@
-use Rattle.sequences.proofs.Notes.{epilogue-met, no-epilogue}
+use Rattle.prologues.proofs.Notes.{epilogue-met, no-epilogue}
 use borrow.Author.Needs.{needs}
-use Rattle.sequences.proofs.check_epilogue.Statement.{statement}
-use Rattle.sequences.proofs.check_epilogue.Tie as tie
+use Rattle.prologues.proofs.check_epilogue.Statement.{statement}
+use Rattle.prologues.proofs.check_epilogue.Tie as tie
 
 check-epilogue-sequence-requires : tie.Need-check-epilogue-sequence-requires
 check-epilogue-sequence-requires c κs = search needs

@@ -1,7 +1,7 @@
-use Rattle.sequences.proofs.Notes.{marked, first-fails, then-epilogue}
+use Rattle.prologues.proofs.Notes.{marked, first-fails, then-epilogue}
 use borrow.Author.Needs.{needs}
-use Rattle.sequences.proofs.check_sequences.Statement.{statement}
-use Rattle.sequences.proofs.check_sequences.Tie as tie
+use Rattle.prologues.proofs.check_sequences.Statement.{statement}
+use Rattle.prologues.proofs.check_sequences.Tie as tie
 
 cast-a : tie.Need-cast-a
 cast-a c = search needs

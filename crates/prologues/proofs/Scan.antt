@@ -12,7 +12,7 @@ use Rattle.rules.specs.Address.{address-of}
 use Rattle.rules.specs.Image.{Image, code-section, index, words-from, words-between}
 use Rattle.rules.specs.Words.{is-function-terminator}
 use Rattle.rules.proofs.Bytes as bytes
-use Rattle.sequences.specs.Code.{CodeWords, Lies}
+use Rattle.prologues.specs.Code.{CodeWords, Lies}
 
 pub words-drop : (i : ℕ) (b : List ℕ) → words-in (drop (i * 4) b) ≡ drop i (words-in b)
 words-drop zero b = refl
