@@ -6,7 +6,8 @@ use mathlib.Core.Logic.{_⊎_, inl, inr}
 use Prim.Native.Nat.{ℕ, _+_, _*_, _-_, _/_, _<_, _≤_}
 use native.Mathlib.Omega.{arith}
 use lib.ListN.{length, take, drop, replicate, length-append, length-replicate}
-use Rattle.rules.specs.Choice.{if, Answer, ok, fault}
+use borrow.Author.Tests.{lt-ltb, le-ltb}
+use Rattle.rules.specs.Choice.{if, if-true, if-false, Answer, ok, fault}
 use Rattle.rules.specs.Given.{Given}
 use Rattle.rules.specs.Check.{check}
 use Rattle.rules.specs.Known.{Entry}
@@ -27,7 +28,7 @@ use Rattle.printing.specs.Told.{Begun}
 use Rattle.printing.proofs.Maps.{results-tell}
 use Rattle.cfa.specs.Maps.{room-of, Told}
 use Rattle.cfa.specs.declared.Map.{Map}
-use Rattle.mapping.specs.Answers.{answer, map-text, image-room, map-room, Shows, Showing, Sized}
+use Rattle.mapping.specs.Answers.{answer, map-text, image-room, map-room, text-room, fmap-text, Shows, Showing, Sized}
 
 -- ---- an answer printed
 
@@ -94,7 +95,7 @@ module _ (rows₀ lists₀ rows lists : List ℕ) (r : Map) where
 
 -- ---- the lists that a text came to
 
-first : (n : ℕ) (l : List ℕ) → take (n - 0) (drop 0 l) ≡ take n l
+pub first : (n : ℕ) (l : List ℕ) → take (n - 0) (drop 0 l) ≡ take n l
 first n l = let z : n - 0 ≡ n = omega arith in rw z
 
 module _ (q : Reading) (s b o f j k e : List ℕ) (cap : Capacity) (out out′ : List ℕ) (r : ℕ) where
@@ -136,3 +137,20 @@ zeros-sized out h =
       size-lists = length-replicate {A = ℕ} 131072 0;
       size-out = h;
     }
+
+-- ---- the texts that `fmap` reads
+
+short : (t : List ℕ) → length t < text-room → fmap-text t ≡ map-text image-room map-room t
+unfolding fmap-text
+short t h = if-true (lt-ltb (length t) text-room h) _ _
+
+long : (t : List ℕ) → text-room ≤ length t → fmap-text t ≡ text (lines (fault 1))
+unfolding fmap-text
+long t h = if-false (le-ltb (length t) text-room h) _ _
+
+module _ (t out out′ : List ℕ) (r : ℕ) where
+  pub short-mapped : length t < text-room → Begun (map-text image-room map-room t) out out′ r → Begun (fmap-text t) out out′ r
+  short-mapped h p = rw (short t h) p
+
+  pub long-refused : text-room ≤ length t → Begun (text (lines (fault 1))) out out′ r → Begun (fmap-text t) out out′ r
+  long-refused h p = rw (long t h) p

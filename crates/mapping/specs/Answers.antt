@@ -3,8 +3,9 @@ use mathlib.Core.Path.{_≡_}
 use mathlib.Core.List.{List}
 use mathlib.Core.Option.{Option, none, some}
 use Prim.Native.Nat.{ℕ, _<_, _≤_}
+use lib.Dec.{ltb}
 use lib.ListN.{length}
-use Rattle.rules.specs.Choice.{Answer, ok, fault}
+use Rattle.rules.specs.Choice.{if, Answer, ok, fault}
 use Rattle.rules.specs.Known.{Entry}
 use Rattle.rules.specs.Map.{Capacity}
 use Rattle.rules.specs.Run.{run}
@@ -32,6 +33,14 @@ image-room =
 -- and for its map: as many entries as a walk may have, and their numbers
 abbrev pub map-room : Capacity
 map-room = record { entries = 1024; numbers = 131072 }
+
+-- "a longer one, or a line that is no frame, prints R 01 alone": the texts that `fmap` reads are shorter than this
+abbrev pub text-room : ℕ
+text-room = 1048576
+
+-- what `fmap` prints of a text
+unfoldable pub fmap-text : List ℕ → List ℕ
+fmap-text t = if (ltb (length t) text-room) (map-text image-room map-room t) (text (lines (fault 1)))
 
 -- ---- inside
 

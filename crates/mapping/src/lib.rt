@@ -11,7 +11,7 @@ ghost use Rattle.obj_image.specs.Lent.{lent, given};
 ghost use Rattle.reading.specs.View.{view, room, Fit};
 ghost use Rattle.printing.specs.Told.{Begun};
 ghost use Rattle.cfa.specs.Maps.{room-of};
-ghost use Rattle.mapping.specs.Answers.{answer, map-text, image-room, map-room, Shows, Showing, Sized};
+ghost use Rattle.mapping.specs.Answers.{answer, map-text, image-room, map-room, fmap-text, Shows, Showing, Sized};
 use reading::state::Reading;
 
 // The text of an answer: the map that the result lists hold, or the number alone.
@@ -101,7 +101,7 @@ fn map_read(
 // A text of frames to the text of its map, which `out` then begins with; the answer is how long it is. The other slices are room to work
 // in, and what they hold before is of no account: rows and lists bound how large a map may be (4 where it passes them), the seven before
 // them how long a list of the image.
-pub fn map_text(
+fn map_text(
     text: &[u8],
     sections: &mut [u32],
     bytes: &mut [u8],
@@ -175,7 +175,7 @@ fn map_in_arrays(
 }
 
 // The same with the room that `fmap` has for an image and its map.
-pub fn map_image(text: &[u8], out: &mut [u8; 1489000]) -> usize
+fn map_image(text: &[u8], out: &mut [u8; 1489000]) -> usize
     requires room { ⌜ length (now out) ≡ 1489000 ⌝ }
     ensures { λ r. ⌜ Begun (map-text image-room map-room (now (text .entry))) (now (out .entry)) (now (out .exit)) r ⌝ }
 {
@@ -201,4 +201,16 @@ pub fn map_image(text: &[u8], out: &mut [u8; 1489000]) -> usize
         &mut lists,
         out,
     )
+}
+
+// What `fmap` prints of a text, which `out` then begins with; the answer is how long it is. A text that is too long for `fmap` is refused as
+// one with a line that is no frame is.
+pub fn fmap_text(text: &[u8], out: &mut [u8; 1489000]) -> usize
+    requires { ⌜ length (now out) ≡ 1489000 ⌝ }
+    ensures { λ r. ⌜ Begun (fmap-text (now (text .entry))) (now (out .entry)) (now (out .exit)) r ⌝ }
+{
+    if text.len() >= 1048576 {
+        return printing::put_refusal(1, out);
+    }
+    map_image(text, out)
 }

@@ -127,7 +127,12 @@ module _ (n : ℕ) (rows lists out₀ : List ℕ) (at : ℕ) where
 begun : (l out out′ : List ℕ) (r : ℕ) → Printed l out 0 out′ r → Begun l out out′ r
 begun l out out′ r p =
     let e : r ≡ length l = omega (arith, p .past) in
-    record { count = e; text = ap₂ (λ (i : ℕ) (m : List ℕ). take i m) e (p .same) ∙ take-at l (drop (0 + length l) out) (length l) refl; size = p .size }
+    record { count = e; text = p .same ∙ ap (λ (i : ℕ). l ++ drop i out) (sym (p .past)); size = p .size }
+
+-- the text lies within the slice
+pub begun-within : {l out out′ : List ℕ} {r : ℕ} → Begun l out out′ r → r ≤ length out′
+begun-within {l} {out} {out′} {r} b =
+    let e : length out′ ≡ length l + length (drop r out) = ap length (b .text) ∙ length-append l (drop r out) in omega (arith, b .count)
 
 pub refusal-begun : (n : ℕ) (out out′ : List ℕ) (r : ℕ) → Printed (line-R n ++ (10 ∷ [])) out 0 out′ r → Begun (text (lines (fault n))) out out′ r
 unfolding lines line-R

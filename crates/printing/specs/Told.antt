@@ -10,10 +10,10 @@ use Rattle.entries.specs.Columns.{at-froms, at-tos, at-references, at-addresses
 use Rattle.entries.specs.Table.{odd}
 use Rattle.printing_lines.specs.Columns as columns
 
--- a slice begins with a text, of which the length is answered
+-- a slice begins with a text, of which the length is answered; behind it, it is as it was before
 pub record Begun (l before after : List ℕ) (r : ℕ) : Type 0 where
   pub count : r ≡ length l
-  pub text : take r after ≡ l
+  pub text : after ≡ l ++ drop r before
   pub size : length after ≡ length before
 
 -- flags and an end are those of a function: analyzed, with an end and lists

@@ -7,6 +7,8 @@ mod cutting;
 ghost use mathlib.Core.Path.{_≡_};
 ghost use Prim.Native.Nat.{_<_, _≤_};
 ghost use lib.ListN.{length};
+ghost use Rattle.printing.specs.Told.{Begun};
+ghost use Rattle.mapping.specs.Answers.{fmap-text};
 
 // Room for the longest image, and for 65,536 bytes more.
 type Text = [u8; 1114112];
@@ -22,23 +24,20 @@ struct Read {
 
 // ---- answers
 
-// The text of an image's map, and how long it is.
+// What `fmap` prints of an image: `out` begins with it, and is as it was behind it. The answer is how long it is.
 fn map_one(image: &[u8], out: &mut Out) -> usize
     requires { ⌜ length (now out) ≡ 1489000 ⌝ }
-    ensures { λ r. ⌜ length (now (out .exit)) ≡ 1489000 ⌝ }
+    ensures { λ r. ⌜ Begun (fmap-text (now (image .entry))) (now (out .entry)) (now (out .exit)) r ⌝ }
 {
-    if image.len() < 1048576 {
-        return mapping::map_image(image, out);
-    }
-    printing::put_refusal(1, out)
+    mapping::fmap_text(image, out)
 }
 
-// The first n bytes to standard output.
-fn write_text(out: &Out, n: usize) {
+// The first n bytes to standard output. Nothing can be said of what is written.
+fn write_text(out: &Out, n: usize)
+    requires { ⌜ n ≤ length (now out) ⌝ }
+{
     let all: &[u8] = out;
-    if n <= all.len() {
-        io::write_all(1, &all[0..n]);
-    }
+    io::write_all(1, &all[0..n]);
 }
 
 fn answer(image: &[u8], out: &mut Out)

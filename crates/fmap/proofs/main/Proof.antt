@@ -1,5 +1,6 @@
 use Prim.Native.Nat.{ℕ}
 use lib.ListN.{length-replicate}
+use Rattle.printing.proofs.Maps.{begun-within}
 use Rattle.fmap.proofs.main.Statement.{statement}
 use Rattle.fmap.proofs.main.Tie as tie
 
@@ -7,10 +8,10 @@ read-text-requires : tie.Need-read-text-requires
 read-text-requires c κs = tt
 
 map-read-requires : tie.Need-map-read-requires
-map-read-requires c κs = length-replicate {A = ℕ} 1489000 0
+map-read-requires c κs = (c .before .before .read-text .ensures, length-replicate {A = ℕ} 1489000 0)
 
 write-text-requires : tie.Need-write-text-requires
-write-text-requires c κs = tt
+write-text-requires c κs = begun-within (c .before .map-read .ensures)
 
 returns : tie.Need-returns
 returns c = tt

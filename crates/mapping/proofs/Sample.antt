@@ -1,0 +1,24 @@
+-- "One run, whole": document 01's three lines, as a text, are printed as its five.
+use mathlib.Core.Path.{_≡_, refl}
+use mathlib.Core.List.{[], _∷_}
+use Rattle.rules.specs.Choice.{if}
+use Rattle.rules.specs.Text.{bytes}
+use Rattle.rules.specs.Lines.{text}
+use Rattle.rules.proofs.Whole.{whole}
+use Rattle.obj_image.specs.Lent.{rows, given}
+use Rattle.frames.specs.Frames.{digit-value, number, tagged, read-frame}
+use Rattle.frames.specs.LastRows.{back, set-back, last-kind, add-word, last-is}
+use Rattle.frames.specs.Rows.{add-row}
+use Rattle.reading.specs.PutFrame.{onward, put-frame, put-line}
+use Rattle.texts.specs.Texts.{read-text}
+use Rattle.mapping.specs.Answers.{map-text, fmap-text}
+
+pub sample-text : fmap-text (text (bytes "01010000100000000008" ∷ bytes "024E8000200300" ∷ bytes "024E8000200300" ∷ [])) ≡
+    text
+    (bytes "R 00" ∷
+    bytes "F 00001000 00001004 - - 000" ∷
+    bytes "B 00001000 00001004" ∷
+    bytes "F 00001004 00001008 - - 000" ∷
+    bytes "B 00001004 00001008" ∷ [])
+unfolding fmap-text map-text read-text put-line put-frame onward add-row add-word last-kind last-is back set-back digit-value number tagged read-frame rows given if whole
+sample-text = refl
