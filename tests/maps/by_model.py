@@ -61,8 +61,7 @@ def put(model, im, line):
         im.skips.append((f(2), f(10)))
     elif kind == frames.ENTRY:
         need(size == 10)
-        # the model has room for one; more than one is handed to it as one that is no code address
-        im.entry = f(2) if im.entry is None else 1
+        im.entries.append(f(2))
     else:
         need(False)
 
