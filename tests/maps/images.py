@@ -55,6 +55,12 @@ class Case:
             self.put(i, BLR, RETURN)
         return self
 
+    def illegal(self, *which):
+        """No instructions, and not zero: a walk goes on behind them without asking what it has visited."""
+        for i in which:
+            self.put(i, 1, ILLEGAL)
+        return self
+
     def zero(self, *which):
         for i in which:
             self.put(i, 0, ILLEGAL)
@@ -448,9 +454,78 @@ def drawn():
                 keep('%d/%d' % (seed, k), first, drawn_of(seed, k))
 
 
+# ---- single places of the Rust
+
+def places():
+    """Each reaches one place of the Rust's slices.rs or executor.rs (commit 9d1ac132c4), whose line stands with it; drawn images reach some
+    of these seldom or never. They come last, so that the others keep their places in the list."""
+    known = lambda c, words: c.add(frames.symbol(frames.FUNCTION, c.at(0), 4 * words, 1))
+
+    def in_each_run(name, number, n, put):
+        """The same n words three times: walked from the first; between two blocks; behind a return, up to the end that a symbol knows."""
+        def image(size, i):
+            c = Case(size)
+            put(c, i)
+            return c
+
+        keep(name + ', in a walk', number, image(n, 0))
+        keep(name + ', in a pass between blocks', number, image(n + 2, 1).ways(0, n + 1).returns(n + 1))
+        keep(name + ', in a pass up to a known end', number, known(image(n + 1, 1).returns(0), n + 1))
+
+    # slices.rs 188: the block at 1 goes over the illegal word and steps the prologue at 3 once more, which is the recorded one.
+    def prologue_again(c, i):
+        c.ways(i, i + 1, i + 3).illegal(i + 2).put(i + 3, STWU).put(i + 4, MFLR).returns(i + 5)
+
+    in_each_run('a prologue is met again behind an illegal word', 0, 6, prologue_again)
+
+    # executor.rs 128: the block at 3 goes over its illegal word to 4 and ends there, as 5 was visited. The mark of 4 then cuts that block,
+    # and the rest of it, 4 to 5, takes the place of the block 4 to 6: the word 5 is in no block. The jump to it opens one that nothing closes.
+    def jump_to_visited(c, i):
+        c.ways(i, i + 1, i + 4).ways(i + 1, i + 2, i + 3).ways(i + 2, i + 4, i + 6).illegal(i + 3).returns(i + 5).jumps(i + 6, i + 5)
+
+    in_each_run('a jump to a visited word in no block', 11, 7, jump_to_visited)
+
+    # The same line, and a map: the block at 2 goes over the start 3, which is pending and open, so that 4 is in no block by the mark's
+    # test. The jump from 5 opens a block at 4. Then 3 is taken from the pending list (102), and the marks from 1 cut the block at 2, which
+    # closes both.
+    def jump_to_visited_and_closed(c, i):
+        c.ways(i, i + 1, i + 6).ways(i + 1, i + 3, i + 4).illegal(i + 2).jumps(i + 5, i + 4).ways(i + 6, i + 3, i + 7).jumps(i + 7, i + 2)
+
+    in_each_run('a jump to a visited word behind an open block, both closed by marks', 0, 8, jump_to_visited_and_closed)
+
+    # slices.rs 544: there is no word at the end of code, and the pass that begins there is 15.
+    keep('a pass up to a known end that begins at the end of code', 15, known(Case(1).returns(0), 2))
+    keep('the same behind nops', 15, known(Case(3).returns(0).put(1, NOP).put(2, NOP), 4))
+    c = known(Case(3).returns(0).put(1, NOP).put(2, NOP), 5)
+    keep('the same with more nops in a data section right behind code', 15, c.section(DATA, c.at(3), [NOP, NOP]))
+
+    # executor.rs 87: a prologue and no epilogue, so that the unknown jump at the last word makes the end of code a pending address.
+    prologue = lambda n: Case(n).put(0, STWU).put(1, MFLR).put(n - 1, BCTR, UNKNOWN)
+    keep('a pending address at the end of code, in a walk', 15, prologue(5).ways(2, 3, 4).returns(3))
+    keep('a pending address at the end of code, in a pass between blocks', 15, prologue(6).ways(2, 4).ways(3, 5).returns(4))
+    keep('a pending address at the end of code, in a pass up to a known end', 15, known(prologue(4).returns(2), 4))
+
+    # executor.rs 102: 2 is pending while the block at 1 goes over it. The jump from 3 marks it, which cuts that block and so closes 2's.
+    def pending_visited(c, i):
+        c.ways(i, i + 2, i + 4).illegal(i + 1).jumps(i + 3, i + 2).jumps(i + 4, i + 1)
+
+    in_each_run('a pending address that was visited', 0, 5, pending_visited)
+
+    # The same line with the word of executor.rs 128, which a branch list makes pending: its block stays open.
+    def pending_in_no_block(c, i):
+        c.ways(i, i + 1, i + 4).ways(i + 1, i + 2, i + 3).ways(i + 2, i + 4, i + 5).illegal(i + 3).returns(i + 5)
+
+    in_each_run('a pending address that was visited and is in no block', 11, 6, pending_in_no_block)
+
+    # The same line by a pass's first address, the word 5 again: the pass marks no new word. (Between blocks: pass-marks-nothing.)
+    c = Case(6).ways(0, 1, 4).ways(1, 2, 3).ways(2, 4).illegal(3).returns(5)
+    keep('a pass up to a known end that begins at a visited word', 16, known(c, 6))
+
+
 GROUPS = (('document 01', sample), ('the worked examples of tests/definitions', worked), ('limits', limits), ('tail calls', tail_calls), ('finalizing', finalizing),
           ('set aside, skip ranges, entry points', set_aside), ('sections', sections), ('lines that are no frames', no_frames),
-          ('outcomes and entry points', outcomes), ('images of tests/checked', rules), ('images of tests/walked', walks), ('drawn', drawn))
+          ('outcomes and entry points', outcomes), ('images of tests/checked', rules), ('images of tests/walked', walks), ('drawn', drawn),
+          ('single places of the Rust', places))
 
 
 def all_images():
