@@ -1,7 +1,10 @@
 /* The function map of a PowerPC image, by a library that is proved to give the map of the rules.
 
    Link with libwoqchari.a (rt staticlib woqchari). The library allocates nothing, keeps nothing between calls, and reads and writes
-   nothing but the lists that it is lent. docs/ARCHITECTURE.md says more of each list. */
+   nothing but what it is lent. docs/ARCHITECTURE.md says more of each list.
+
+   A call takes up to 173,376 bytes of stack, whatever it is lent: measured on 2,606 images of all kinds, on x86-64. A thread with a stack of
+   172 KB (1,024 bytes each), the thread's own needs among them, crashed, and one with 176 KB did not; 256 KB leave room for the caller. */
 #ifndef WOQCHARI_H
 #define WOQCHARI_H
 
@@ -48,9 +51,14 @@ enum {
    entries    one number: how many entries there are.
    numbers    one number: how many numbers of `lists` they take.
 
-   The lists may have any length; behind the map they are zero. */
+   The lists may have any length; behind the map they are zero. While a run goes on, `lists` holds possible blocks as well, one number
+   each: so lending exactly as many numbers as an earlier map took can give 4 (docs/ARCHITECTURE.md has an image whose map takes 26
+   numbers and whose run needs 27). WOQCHARI_ROWS_ENOUGH and WOQCHARI_LISTS_ENOUGH are lengths that are always enough, by the limits:
+   1,024 entries, each with 256 blocks, 1,024 ways on and 256 jump tables, two numbers each, 256 references and 128 possible blocks. */
 enum {
     WOQCHARI_ROW = 10,
+    WOQCHARI_ROWS_ENOUGH = 1024 * WOQCHARI_ROW,
+    WOQCHARI_LISTS_ENOUGH = 1024 * (2 * 256 + 2 * 1024 + 256 + 2 * 256 + 128), /* 3,538,944 numbers, 27 MB */
     WOQCHARI_ANALYZED = 1,
     WOQCHARI_HAS_LISTS = 2, /* a function; else set aside */
     WOQCHARI_CONDITIONAL_BLR = 4,
@@ -77,8 +85,9 @@ static inline uint32_t woqchari_address(uint64_t key) { return (uint32_t)key; }
 static inline uint32_t woqchari_section(uint64_t key) { return (uint32_t)(key >> 32) - 1; }
 
 /* Answers 0: the map is in the lent lists.
-   1, 2, 3: the image, an outcome, or something else that was handed in breaks a rule; nothing was written.
-   4: a list of the walk, or a lent one, is too short. 5 to 17: the walk met a fault. The lent result lists are zero after these.
+   1, 2, 3: the image, an outcome, or something else that was handed in breaks a rule; `rows` and `lists` are as they were.
+   4: a list of the walk, or a lent one, is too short. 5 to 17: the walk met a fault. `rows` and `lists` are zero after these.
+   After 1 to 17 *entries and *numbers are 0. README.md has the numbers in words.
 
    Each slice is a pointer and then how many elements it has. A pointer may not be null, even of an empty slice; the lists that are written
    may overlap no other. */
