@@ -7,9 +7,10 @@ use Prim.Native.Nat.{ℕ, _+_, _-_, _<_, _≤_}
 use native.Mathlib.Omega.{arith}
 use lib.Dec.{ltb}
 use lib.ListN.{length, take, drop, length-drop}
-use lib.Seq.{length-take-le}
+use lib.Seq.{length-take-le, take-all}
 use borrow.Author.Tests.{ltb-true, ltb-false}
 use Rattle.replay.specs.Marks.{Mark, IsMark, NextMark}
+use Rattle.replay.specs.Rest.{Rest}
 
 -- it begins no line
 pub inside-a-line : {A B : Type 0} → (A → ⊥) → (B → ⊥) → A ⊎ B → ⊥
@@ -53,3 +54,17 @@ module _ (t : List ℕ) (at : ℕ) (h : at ≤ length t) (m : ℕ) (n : NextMark
   -- its two bytes are within the text
   pub mark-inside : at + m < length t → at + m + 2 ≤ length t
   mark-inside k = let e : m < length (take (length t - at) (drop at t)) = omega (arith, tail-long) in omega (arith, n .here e .inside, tail-long)
+
+  -- or there is none
+  pub none-behind : length t ≤ at + m → Rest t at
+  none-behind k = record { within = h; unmarked = by }
+    where
+      by : (i : ℕ) → Mark (drop at t) i → ⊥
+      by i q =
+          let d : length (drop at t) ≡ length t - at = length-drop at t in
+          let e : take (length t - at) (drop at t) ≡ drop at t = take-all (length t - at) (drop at t) (omega arith) in
+          n .first i (omega (arith, q .inside)) (rw e q)
+
+-- nor behind the end
+pub none-at-end : (t : List ℕ) (at : ℕ) → at ≤ length t → length t ≤ at → Rest t at
+none-at-end t at h k = record { within = h; unmarked = λ i q. absurd (omega (arith, q .inside, length-drop at t)) }

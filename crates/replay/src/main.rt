@@ -5,10 +5,12 @@
 mod cutting;
 
 ghost use mathlib.Core.Path.{_≡_};
-ghost use Prim.Native.Nat.{_<_, _≤_};
-ghost use lib.ListN.{length};
+ghost use Prim.Native.Nat.{_-_, _<_, _≤_};
+ghost use lib.ListN.{length, take, drop};
+ghost use lib.Seq.{paste};
 ghost use Rattle.printing.specs.Told.{Begun};
 ghost use Rattle.mapping.specs.Answers.{fmap-text};
+ghost use Rattle.replay.specs.Rest.{Rest, Kept, LineEnded};
 
 // Room for the longest image, and for 65,536 bytes more.
 type Text = [u8; 1114112];
@@ -52,7 +54,7 @@ fn answer(image: &[u8], out: &mut Out)
 // Answers each image that a line `=` ends. Where the text behind the last such line begins.
 fn answer_ended(text: &[u8], out: &mut Out) -> usize
     requires { ⌜ length (now out) ≡ 1489000 ⌝ }
-    ensures { λ r. ⌜ (r ≤ length (now (text .entry))) × (length (now (out .exit)) ≡ 1489000) ⌝ }
+    ensures { λ r. ⌜ Rest (now (text .entry)) r × (length (now (out .exit)) ≡ 1489000) ⌝ }
 {
     let mut at: usize = 0;
     while at < text.len() {
@@ -72,6 +74,7 @@ fn answer_ended(text: &[u8], out: &mut Out) -> usize
 // The bytes from a place up to another one moved to the text's front.
 fn move_down(text: &mut [u8], at: usize, n: usize)
     requires { ⌜ (at ≤ n) × (n ≤ length (now text)) ⌝ }
+    ensures { λ _. ⌜ now (text .exit) ≡ paste (now (text .entry)) 0 (drop at (now (text .entry))) (n - at) ⌝ }
 {
     let mut i: usize = 0;
     while i < n - at {
@@ -84,7 +87,7 @@ fn move_down(text: &mut [u8], at: usize, n: usize)
 // down to a line that is no frame, which is refused too, and the last two bytes, with which a line `=` may begin.
 fn keep_rest(text: &mut [u8], at: usize, n: usize) -> usize
     requires { ⌜ (at ≤ n) × (n ≤ length (now text)) ⌝ }
-    ensures { λ r. ⌜ r ≤ 1048576 ⌝ }
+    ensures { λ r. ⌜ Kept at n (now (text .entry)) (now (text .exit)) r ⌝ }
 {
     if n - at < 1048576 {
         move_down(text, at, n);
@@ -101,7 +104,7 @@ fn keep_rest(text: &mut [u8], at: usize, n: usize) -> usize
 // Standard input read behind the first n bytes, to its end or as far as there is room; how many bytes there are then.
 fn fill(text: &mut [u8], n: usize) -> usize
     requires { ⌜ n ≤ length (now text) ⌝ }
-    ensures { λ r. ⌜ r ≤ length (now (text .exit)) ⌝ }
+    ensures { λ r. ⌜ (r ≤ length (now (text .exit))) × (take n (now (text .exit)) ≡ take n (now (text .entry))) ⌝ }
 {
     let got = io::read_full(0, &mut text[n..]);
     n + got
@@ -129,7 +132,7 @@ fn replay_more(text: &mut [u8], out: &mut Out, n: usize) -> Read
 // A newline behind a last byte `=`, so that this may be a line `=` too.
 fn end_line(text: &mut [u8], n: usize) -> usize
     requires { ⌜ n < length (now text) ⌝ }
-    ensures { λ r. ⌜ r ≤ length (now (text .exit)) ⌝ }
+    ensures { λ r. ⌜ LineEnded n (now (text .entry)) (now (text .exit)) r ⌝ }
 {
     if n == 0 {
         return n;

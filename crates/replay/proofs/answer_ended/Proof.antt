@@ -1,7 +1,7 @@
 use mathlib.Core.Path.{_≡_}
 use Prim.Native.Nat.{_≤_, _-_}
 use lib.ListN.{length}
-use Rattle.replay.proofs.Marking.{mark-inside}
+use Rattle.replay.proofs.Marking.{mark-inside, none-behind, none-at-end}
 use borrow.Author.Needs.{needs}
 use Rattle.replay.proofs.answer_ended.Statement.{statement}
 use Rattle.replay.proofs.answer_ended.Tie as tie
@@ -52,10 +52,10 @@ loop-again : tie.Need-loop-again Inv-loop μ-loop
 loop-again c = (mark-inside (c .before .before .before .before .before .before .before .before .before .args .text .now) (c .before .before .before .before .before .before .before .loop .at) (c .before .before .before .before .before .before .before .loop .inv .0) _ (c .before .before .before .before .next-mark .ensures) (c .before .before .before .if1 .taken), c .answer .ensures)
 
 returns : tie.Need-returns Inv-loop μ-loop
-returns c = search needs
+returns c = (none-behind (c .before .before .before .before .before .before .args .text .now) (c .before .before .before .before .loop .at) (c .before .before .before .before .loop .inv .0) _ (c .before .next-mark .ensures) (c .if1 .left), c .before .before .before .before .loop .inv .1)
 
 returns-2 : tie.Need-returns-2 Inv-loop μ-loop
-returns-2 c = search needs
+returns-2 c = (none-at-end (c .before .before .before .args .text .now) _ (c .before .loop .inv .0) (c .loop-test .left), c .before .loop .inv .1)
 
 pub answer-ended-spec : {M : Type 1} → statement M
 answer-ended-spec =

@@ -1,11 +1,10 @@
-use native.Mathlib.Omega.{arith}
-use lib.ListN.{length-set}
+use Rattle.replay.proofs.Keeping.{nothing-ended, mark-ended, other-left}
 use borrow.Author.Needs.{needs}
 use Rattle.replay.proofs.end_line.Statement.{statement}
 use Rattle.replay.proofs.end_line.Tie as tie
 
 returns : tie.Need-returns
-returns c = search needs
+returns c = search (needs, nothing-ended)
 
 sub-if2 : tie.Need-sub-if2
 sub-if2 c = search needs
@@ -23,10 +22,10 @@ same-length : tie.Need-same-length
 same-length c = search needs
 
 returns-2 : tie.Need-returns-2
-returns-2 c = simp length-set (omega arith)
+returns-2 c = search (needs, mark-ended)
 
 returns-3 : tie.Need-returns-3
-returns-3 c = search needs
+returns-3 c = search (needs, other-left)
 
 pub end-line-spec : {M : Type 1} → statement M
 end-line-spec =

@@ -1,5 +1,6 @@
 use native.Mathlib.Omega.{arith}
 use lib.ListN.{length-set}
+use Rattle.replay.proofs.Keeping.{all-kept, too-many-kept}
 use borrow.Author.Needs.{needs}
 use Rattle.replay.proofs.keep_rest.Statement.{statement}
 use Rattle.replay.proofs.keep_rest.Tie as tie
@@ -17,7 +18,7 @@ same-length : tie.Need-same-length
 same-length c = search needs
 
 returns : tie.Need-returns
-returns c = search needs
+returns c = search (needs, all-kept)
 
 sub-a : tie.Need-sub-a
 sub-a c = search needs
@@ -44,7 +45,7 @@ same-length-2 : tie.Need-same-length-2
 same-length-2 c = search needs
 
 returns-2 : tie.Need-returns-2
-returns-2 c = search needs
+returns-2 c = search (needs, too-many-kept)
 
 pub keep-rest-spec : {M : Type 1} → statement M
 keep-rest-spec =
