@@ -34,7 +34,7 @@ image-room =
 abbrev pub map-room : Capacity
 map-room = record { entries = 1024; numbers = 131072 }
 
--- "a longer one, or a line that is no frame, prints R 01 alone": the texts that `fmap` reads are shorter than this
+-- the texts that `fmap` takes are shorter than this; a longer one is refused as one with a line that is no frame is
 abbrev pub text-room : ℕ
 text-room = 1048576
 
