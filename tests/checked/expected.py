@@ -66,8 +66,7 @@ def image_of(model, l):
     im.functions = [tuple(s) if len(s) == 3 else (1, 0, 0) for s in rows(l.functions, 3)]
     im.objects = [tuple(s) if len(s) == 3 else (1, 0, 0) for s in rows(l.objects, 3)]
     im.skips = [tuple(s) if len(s) == 2 else (1, 0) for s in rows(l.skips, 2)]
-    # the model has room for one entry point: more than one is handed to it as one that is no code address
-    im.entry = None if not l.entry else l.entry[0] if len(l.entry) == 1 else 1
+    im.entries = list(l.entry)
     return im
 
 

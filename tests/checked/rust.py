@@ -54,7 +54,7 @@ def main():
                 made.append((name, fault, list(frames(im, word, a, size))))
     count, differ = collections.Counter(), []
     for name, fault, lines in made:
-        run = subprocess.run([oracle, '--explain'], input='\n'.join(lines) + '\n', capture_output=True, text=True, check=True)
+        run = subprocess.run([oracle, 'map', '--explain'], input='\n'.join(lines) + '\n', capture_output=True, text=True, check=True)
         rust, whole = run.stdout.split('\n')[0], next(model.run(lines))
         same = rust == whole == 'R %02d' % fault
         count[fault, by_whom(run.stderr), same] += 1

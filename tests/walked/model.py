@@ -46,8 +46,8 @@ def whole_answer(s, found):
             yield 'C %s %s' % (printed(at), printed(to))
     for a in sorted(s.references):
         yield 'X ' + printed(a)
-    for a in sorted(s.tables):
-        yield 'J %s %08x' % (printed(a), s.tables[a])
+    for a, size in sorted(s.tables):
+        yield 'J %s %08x' % (printed(a), size)
     for a in sorted(s.possible):
         yield 'P ' + printed(a)
     yield 'L zero'
