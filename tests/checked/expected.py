@@ -3,18 +3,31 @@
 
     expected.py MODEL    MODEL: the file fmap_model.py; prints crates/checked/stdout
 """
+import argparse
 import importlib.util
 import sys
 
 sys.dont_write_bytecode = True
 import images
 from lists import BSS, JUMP, LIST, TABLE, rows
+from needs import Parser, file
 
 
 def load(path):
     spec = importlib.util.spec_from_file_location('model', path)
     model = importlib.util.module_from_spec(spec)
     spec.loader.exec_module(model)
+    return model
+
+
+def load_model(path):
+    """The type of an argument that is the model's file."""
+    file(path)
+    try:
+        model = load(path)
+        model.AnalyzerState
+    except Exception as e:
+        raise argparse.ArgumentTypeError('%s is not the file fmap_model.py (%s)' % (path, e))
     return model
 
 
@@ -117,7 +130,9 @@ def answer(model, l):
 
 
 def main():
-    model = load(sys.argv[1])
+    options = Parser(__doc__)
+    options.add_argument('model', type=load_model)
+    model = options.parse_args().model
     broken, passing, texts = images.all_images()
     for name, l, rule in broken + passing:
         lines = list(answer(model, l))

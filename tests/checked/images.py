@@ -10,6 +10,7 @@ import sys
 
 sys.dont_write_bytecode = True
 from lists import *
+from needs import Parser
 
 SEED = 1
 BROKEN, PASSING, TEXTS = [], [], []     # (name, Lent, rule), (name, Lent, None), (name, lines, answer)
@@ -733,8 +734,11 @@ def all_images():
 
 
 def main():
+    options = Parser(__doc__)
+    options.add_argument('--count', action='store_true')
+    o = options.parse_args()
     broken, passing, texts = all_images()
-    if sys.argv[1:] == ['--count']:
+    if o.count:
         for rule, n in sorted(collections.Counter(rule for _, _, rule in broken).items()):
             print('%4d  %s' % (n, rule))
         print('%4d  break one rule\n%4d  pass\n%4d  are not of the format or too long' % (len(broken), len(passing), len(texts)))

@@ -1,5 +1,10 @@
 """An image as the lent lists that stand for it, the text in which the program `checked` reads them, and the rules of document 01's
 "The image" one by one, so that an image can be held to break just the one it is meant to break."""
+import os
+import sys
+
+# Every script here and in tests/walked and tests/maps comes by this file, and needs tests/needs.py.
+sys.path.append(os.path.join(os.path.dirname(os.path.abspath(__file__)), '..'))
 
 CODE, DATA, RODATA, BSS = 1, 2, 3, 4
 GO_ON, ILLEGAL, UNKNOWN, RETURN, JUMP, TABLE, LIST = range(7)

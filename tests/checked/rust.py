@@ -1,7 +1,7 @@
 #!/usr/bin/env python3
 """Compares the faults of jump tables with the Rust.
 
-    rust.py MODEL ORACLE    MODEL: the file fmap_model.py; ORACLE: the program that runs the unchanged Rust on frames
+    rust.py MODEL ORACLE    MODEL: the file fmap_model.py; ORACLE: the program of tests/oracle
 
 For each table of the images that comes to a fault, an image is made in frames in which the Rust meets that table: the same sections,
 bytes and symbols, the word that names the table with that outcome (for a branch to a table, a jump table of no size, since the Rust
@@ -13,8 +13,9 @@ import sys
 
 sys.dont_write_bytecode = True
 import images
-from expected import image_of, load, number_of, read, tables_of
+from expected import image_of, load_model, number_of, read, tables_of
 from lists import CODE, GO_ON, TABLE
+from needs import Parser, program
 
 
 def frames(im, word, a, size):
@@ -43,7 +44,11 @@ def by_whom(words):
 
 
 def main():
-    model, oracle = load(sys.argv[1]), sys.argv[2]
+    options = Parser(__doc__)
+    options.add_argument('model', type=load_model)
+    options.add_argument('oracle', type=program)
+    o = options.parse_args()
+    model, oracle = o.model, o.oracle
     made = []
     for name, l, _ in images.all_images()[1]:
         im = image_of(model, l)
@@ -62,7 +67,8 @@ def main():
             differ.append('%s: fault %d, the Rust %s, a run of the model %s' % (name, fault, rust, whole))
     for (fault, whom, same), n in sorted(count.items()):
         print('fault %2d: %3d tables %s (%s)' % (fault, n, 'agree' if same else 'DIFFER', whom))
-    print('\n'.join(differ), end='')
+    print(''.join(line + '\n' for line in differ), end='')
+    sys.exit(bool(differ))
 
 
 if __name__ == '__main__':

@@ -7,9 +7,13 @@ Both files hold many, each ended by a line '='. For each image the theorem says 
 exactly the printed lines: `whole given enough ≡ lines`, proved by refl. A line "# NAME" before an image names its
 theorem; "# room ENTRIES NUMBERS" lends result lists of that size instead of ample ones.
 """
+import os
 import re
 import sys
 
+sys.dont_write_bytecode = True
+sys.path.append(os.path.join(os.path.dirname(os.path.abspath(__file__)), '..'))
+from needs import Parser, file
 
 def number(n):
     return hex(n) if n > 9 else str(n)
@@ -94,9 +98,12 @@ use Rattle.rules.proofs.Whole.{whole, enough}
 
 
 def main():
-    images, answers = sys.argv[1:3]
+    options = Parser(__doc__)
+    for name in ('images', 'answers'):
+        options.add_argument(name, type=file)
+    o = options.parse_args()
     print(HEAD)
-    for i, ((notes, frames), (_, lines)) in enumerate(zip(split(images), split(answers), strict=True)):
+    for i, ((notes, frames), (_, lines)) in enumerate(zip(split(o.images), split(o.answers), strict=True)):
         name, room = f'image-{i}', 'enough'
         for note in notes:
             if note[0] == 'room':

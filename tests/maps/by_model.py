@@ -9,7 +9,8 @@ import traceback
 sys.dont_write_bytecode = True
 import frames
 from frames import CODE, JUMP, LIST, TABLE
-from expected import load
+from expected import load_model
+from needs import Parser, need_input
 
 DIGITS = set('0123456789abcdefABCDEF')
 WORDS = 1024
@@ -100,7 +101,10 @@ def answer(model, lines):
 
 
 def main():
-    model = load(sys.argv[1])
+    options = Parser(__doc__)
+    options.add_argument('model', type=load_model)
+    model = options.parse_args().model
+    need_input()
     sys.stdin.reconfigure(newline='\n')     # a carriage return is a part of its line
     lines = []
     for line in sys.stdin:

@@ -15,6 +15,7 @@ import frames
 from drawn import BLR, CONDITIONAL_BLR, NOP, RFI, Drawn, filler
 from frames import BSS, CODE, LIST
 from lists import ELSEWHERE, RETURN, TO_ADDRESS
+from needs import Parser
 
 # Images that are made of one: the image itself and those with changes.
 TURNS = 8
@@ -171,8 +172,12 @@ def images(seed, first, count):
 
 
 def main():
-    seed, count, first = (list(map(int, sys.argv[1:])) + [0])[:3]
-    for lines in images(seed, first, count):
+    options = Parser(__doc__)
+    for name in ('seed', 'count'):
+        options.add_argument(name, type=int)
+    options.add_argument('first', type=int, nargs='?', default=0)
+    o = options.parse_args()
+    for lines in images(o.seed, o.first, o.count):
         sys.stdout.write(frames.text([lines]))
 
 

@@ -18,6 +18,7 @@ sys.dont_write_bytecode = True
 import frames
 from frames import BSS, CODE, JUMP, LIST, TABLE
 from lists import DATA, ELSEWHERE, GO_ON, ILLEGAL, LINK, RETURN, RODATA, TO_ADDRESS, TO_TABLE, UNKNOWN, rows
+from needs import Parser
 
 HERE = os.path.dirname(os.path.abspath(__file__))
 
@@ -538,13 +539,17 @@ def all_images():
 
 
 def main():
+    options = Parser(__doc__)
+    options.add_argument('--count', action='store_true')
+    options.add_argument('--names', action='store_true')
+    o = options.parse_args()
     images = all_images()
-    if sys.argv[1:] == ['--count']:
+    if o.count:
         count = collections.Counter(i[0] for i in images)
         for group, _ in GROUPS:
             print('%5d  %s' % (count[group], group))
         print('%5d  images' % len(images))
-    elif sys.argv[1:] == ['--names']:
+    elif o.names:
         for i, (group, name, _, _) in enumerate(images):
             print('%4d  %s; %s' % (i, group, name))
     else:

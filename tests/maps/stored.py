@@ -18,7 +18,8 @@ import sys
 sys.dont_write_bytecode = True
 import frames
 from by_model import judged
-from expected import load
+from expected import load, load_model
+from needs import Parser, program
 
 HERE = os.path.dirname(os.path.abspath(__file__))
 
@@ -134,13 +135,20 @@ def draw(oracle):
 
 
 def main():
-    if sys.argv[2:] == ['--draw']:
-        return draw(sys.argv[1])
-    model, oracle = load(sys.argv[1]), sys.argv[2]
-    if sys.argv[3:] == ['--tests']:
+    options = Parser(__doc__)
+    for name in ('--count', '--tests', '--draw'):
+        options.add_argument(name, action='store_true')
+    if '--draw' not in sys.argv:
+        options.add_argument('model', type=load_model)
+    options.add_argument('oracle', type=program)
+    o = options.parse_args()
+    if o.draw:
+        return draw(o.oracle)
+    model, oracle = o.model, o.oracle
+    if o.tests:
         for what, n in tests(model, oracle):
             print('%5d  %s' % (n, what))
-    elif sys.argv[3:] == ['--count']:
+    elif o.count:
         count = collections.Counter((told[0], who) for _, _, _, told, who in judge(model, oracle))
         for (number, who), n in sorted(count.items()):
             print('%5d  %s  %s' % (n, number, who))

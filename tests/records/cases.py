@@ -1,8 +1,17 @@
 #!/usr/bin/env python3
-"""cases.py > crates/records/stdin: operations for the program `records`, drawn from a seed. cases.py --count: how many of each."""
+"""Operations for the program `records`, drawn from a seed.
+
+    cases.py > crates/records/stdin
+    cases.py --count                  how many of each there are
+"""
 import collections
+import os
 import random
 import sys
+
+sys.dont_write_bytecode = True
+sys.path.append(os.path.join(os.path.dirname(os.path.abspath(__file__)), ".."))
+from needs import Parser
 
 
 def table(rng, rows, step):
@@ -77,8 +86,11 @@ def operations():
 
 
 def main():
+    options = Parser(__doc__)
+    options.add_argument("--count", action="store_true")
+    o = options.parse_args()
     lines = operations()
-    if sys.argv[1:] == ["--count"]:
+    if o.count:
         for letter, n in sorted(collections.Counter(l[0] for l in lines).items()):
             print(letter, n)
         return

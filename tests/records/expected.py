@@ -1,8 +1,16 @@
 #!/usr/bin/env python3
-"""expected.py < crates/records/stdin > crates/records/stdout: what the program `records` must print, from document 01 alone. It shares
-nothing with the code. expected.py --count < crates/records/stdin: how often each answer comes."""
+"""What the program `records` must print, from document 01 alone. It shares nothing with the code.
+
+    expected.py < crates/records/stdin > crates/records/stdout
+    expected.py --count < crates/records/stdin                  how often each answer comes
+"""
 import collections
+import os
 import sys
+
+sys.dont_write_bytecode = True
+sys.path.append(os.path.join(os.path.dirname(os.path.abspath(__file__)), ".."))
+from needs import Parser, need_input
 
 ROWS, ADDRESSES, MOST = 260, 256, 256
 
@@ -88,9 +96,13 @@ def run(lines, seen):
 
 
 def main():
+    options = Parser(__doc__)
+    options.add_argument("--count", action="store_true")
+    o = options.parse_args()
+    need_input()
     seen = collections.Counter()
     lines = list(run(sys.stdin.read().splitlines(), seen)) + ["disagreements 0"]
-    if sys.argv[1:] == ["--count"]:
+    if o.count:
         for key, n in sorted(seen.items()):
             print(*key, n)
         return

@@ -14,6 +14,7 @@ from drawn import (ADDI_R1, BCTR, BCTRL, BEQ, BLR, CONDITIONAL_BLR, LOADS_R1, MF
 from lists import (BSS, CODE, DATA, ELSEWHERE, GO_ON, ILLEGAL, JUMP, LINK, LIST, RETURN, RODATA, TABLE, TO_ADDRESS, TO_TABLE, UNKNOWN, Image,
                    Section)
 import images       # of the program `checked`
+from needs import Parser
 
 CASES = []          # (group, name, Asked, the number of each walk or none where it is not said)
 GROUP = ['']        # the group that is being made
@@ -717,8 +718,11 @@ def all_cases():
 
 
 def main():
+    options = Parser(__doc__)
+    options.add_argument('--count', action='store_true')
+    o = options.parse_args()
     cases = all_cases()
-    if sys.argv[1:] == ['--count']:
+    if o.count:
         count = collections.Counter()
         for group, _, asked, _ in cases:
             count[group, 'images'] += 1

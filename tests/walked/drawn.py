@@ -10,6 +10,7 @@ sys.dont_write_bytecode = True
 from asked import MOST, Asked, key
 from lists import (BSS, CODE, DATA, ELSEWHERE, GO_ON, ILLEGAL, JUMP, LINK, LIST, RETURN, RODATA, TABLE, TO_ADDRESS, TO_TABLE, UNKNOWN,
                    Image, Section)
+from needs import Parser
 
 BLR, NOP, RFI, BCTR, BCTRL, BEQ = 0x4E800020, 0x60000000, 0x4C000064, 0x4E800420, 0x4E800421, 0x41820000
 STWU, STWUX, MFLR, STW_R0 = 0x9421FFF0, 0x7C21196E, 0x7C0802A6, 0x90010014
@@ -439,9 +440,13 @@ def drawn(seed, k):
 
 
 def main():
-    seed, count, first = (list(map(int, sys.argv[1:])) + [0])[:3]
-    for k in range(first, first + count):
-        print('\n'.join(['# %d/%d' % (seed, k), *drawn(seed, k).lines(), '=']))
+    options = Parser(__doc__)
+    for name in ('seed', 'count'):
+        options.add_argument(name, type=int)
+    options.add_argument('first', type=int, nargs='?', default=0)
+    o = options.parse_args()
+    for k in range(o.first, o.first + o.count):
+        print('\n'.join(['# %d/%d' % (o.seed, k), *drawn(o.seed, k).lines(), '=']))
 
 
 if __name__ == '__main__':

@@ -7,7 +7,8 @@ import sys
 
 sys.dont_write_bytecode = True
 from asked import parts, read, rows
-from expected import image_of, load, number_of
+from expected import image_of, load_model, number_of
+from needs import Parser, need_input
 
 
 def is_allowed(model, im, known, start, end):
@@ -76,7 +77,10 @@ def answer(model, asked):
 
 
 def main():
-    model = load(sys.argv[1])
+    options = Parser(__doc__)
+    options.add_argument('model', type=load_model)
+    model = options.parse_args().model
+    need_input()
     for lines in parts(sys.stdin):
         for each in answer(model, read(lines)):
             print('\n'.join(each))

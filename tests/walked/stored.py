@@ -15,8 +15,9 @@ import sys
 sys.dont_write_bytecode = True
 from asked import answers, parts
 from cases import all_cases
-from expected import image_of, load, number_of
+from expected import image_of, load_model, number_of
 from model import answer
+from needs import Parser, program
 
 BOTH = 'the Rust and the model'
 
@@ -45,7 +46,12 @@ def source(told, rust):
 
 
 def main():
-    model, oracle = load(sys.argv[1]), sys.argv[2]
+    options = Parser(__doc__)
+    options.add_argument('model', type=load_model)
+    options.add_argument('oracle', type=program)
+    options.add_argument('--count', action='store_true')
+    o = options.parse_args()
+    model, oracle = o.model, o.oracle
     cases = all_cases()
     passing = [i for i, (_, _, asked, _) in enumerate(cases) if number_of(model, image_of(model, asked.lent)) == 0]
     by_rust = dict(zip(passing, rust_answers(oracle, [cases[i][2] for i in passing])))
@@ -62,7 +68,7 @@ def main():
                 sys.exit('%s; %s: walk %d, wanted %s, the model %s, the Rust %s' % (group, name, j, wanted, walk, rust[j]))
             lines += walk
         lines.append('=')
-    if sys.argv[3:] == ['--count']:
+    if o.count:
         lines = ['%5d  %s  %s' % (n, number, who) for (number, who), n in sorted(count.items())]
     print('\n'.join(lines))
 
