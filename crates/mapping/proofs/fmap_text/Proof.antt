@@ -3,17 +3,11 @@ use borrow.Author.Needs.{needs}
 use Rattle.mapping.proofs.fmap_text.Statement.{statement}
 use Rattle.mapping.proofs.fmap_text.Tie as tie
 
-put-refusal-requires : tie.Need-put-refusal-requires
-put-refusal-requires c κs = search needs
-
 returns : tie.Need-returns
 returns c = search (needs, long-refused)
-
-map-image-requires : tie.Need-map-image-requires
-map-image-requires c κs = search needs
 
 returns-2 : tie.Need-returns-2
 returns-2 c = search (needs, short-mapped)
 
 pub fmap-text-spec : {M : Type 1} → statement M
-fmap-text-spec = tie.close (tie.spec put-refusal-requires returns map-image-requires returns-2)
+fmap-text-spec = tie.close (tie.spec (λ c κs. search needs) returns (λ c κs. search needs) returns-2)
