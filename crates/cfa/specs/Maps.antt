@@ -24,11 +24,15 @@ room-of rows lists = record { entries = length rows / 10; numbers = length lists
 abbrev pub answer-of : ℕ → ℕ → ℕ → Map
 answer-of n e m = record { number = n; entries = e; numbers = m }
 
--- the answer of a walk: a map and zeros past it, or a fault and zeros
-abbrev pub Left : Answer (List Entry) → List ℕ → List ℕ → List ℕ → List ℕ → Map → Type 0
-Left (ok es) rows₀ lists₀ rows lists r =
+-- a map: its counts, its rows and numbers, and zeros past them
+abbrev pub Mapped : List Entry → List ℕ → List ℕ → List ℕ → List ℕ → Map → Type 0
+Mapped es rows₀ lists₀ rows lists r =
     (r ≡ answer-of 0 (length es) (length (flat entry-numbers es))) × (rows ≡ padded (flat result-row es) (length rows₀)) ×
     (lists ≡ padded (flat entry-numbers es) (length lists₀))
+
+-- the answer of a walk: a map, or a fault and zeros
+abbrev pub Left : Answer (List Entry) → List ℕ → List ℕ → List ℕ → List ℕ → Map → Type 0
+Left (ok es) rows₀ lists₀ rows lists r = Mapped es rows₀ lists₀ rows lists r
 Left (fault n) rows₀ lists₀ rows lists r =
     (r ≡ answer-of n 0 0) × (rows ≡ replicate (length rows₀) 0) × (lists ≡ replicate (length lists₀) 0)
 
@@ -43,9 +47,7 @@ pub record Leaves (a : Answer (List Entry)) (rows₀ lists₀ rows lists : List 
 
 -- the whole: 1 to 3 leave the lists as they were
 abbrev pub Answers : Answer (List Entry) → List ℕ → List ℕ → List ℕ → List ℕ → Map → Type 0
-Answers (ok es) rows₀ lists₀ rows lists r =
-    (r ≡ answer-of 0 (length es) (length (flat entry-numbers es))) × (rows ≡ padded (flat result-row es) (length rows₀)) ×
-    (lists ≡ padded (flat entry-numbers es) (length lists₀))
+Answers (ok es) rows₀ lists₀ rows lists r = Mapped es rows₀ lists₀ rows lists r
 Answers (fault n) rows₀ lists₀ rows lists r =
     (r ≡ answer-of n 0 0) × (rows ≡ if (leb n 3) rows₀ (replicate (length rows₀) 0)) × (lists ≡ if (leb n 3) lists₀ (replicate (length lists₀) 0))
 
