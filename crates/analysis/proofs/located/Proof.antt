@@ -4,11 +4,8 @@ use borrow.Author.Needs.{needs}
 use Rattle.analysis.proofs.located.Statement.{statement}
 use Rattle.analysis.proofs.located.Tie as tie
 
-locate-requires : tie.Need-locate-requires
-locate-requires c κs = search needs
-
 returns : tie.Need-returns
 returns c = c .locate .ensures _ refl
 
 pub located-spec : {M : Type 1} → statement M
-located-spec = tie.close (tie.spec locate-requires returns)
+located-spec = tie.close (tie.spec (λ c κs. search needs) returns)

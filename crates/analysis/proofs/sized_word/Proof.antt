@@ -7,17 +7,8 @@ use Rattle.analysis.proofs.sized_word.Tie as tie
 returns : tie.Need-returns
 returns c = search (needs, passed-over)
 
-located-requires : tie.Need-located-requires
-located-requires c κs = search needs
-
 returns-2 : tie.Need-returns-2
 returns-2 c = search (needs, nowhere)
-
-take-entry-requires : tie.Need-take-entry-requires
-take-entry-requires c κs = search needs
-
-same-length : tie.Need-same-length
-same-length c = search needs
 
 returns-3 : tie.Need-returns-3
 returns-3 c = search (needs, sized-taken)
@@ -25,4 +16,4 @@ returns-3 c = search (needs, sized-taken)
 pub sized-word-spec : {M : Type 1} → statement M
 sized-word-spec =
     tie.close
-    (tie.spec returns located-requires returns-2 take-entry-requires same-length returns-3)
+    (tie.spec returns (λ c κs. search needs) returns-2 (λ c κs. search needs) (λ c. search needs) returns-3)

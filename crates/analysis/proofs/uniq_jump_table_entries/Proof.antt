@@ -5,26 +5,8 @@ use borrow.Author.Needs.{needs}
 use Rattle.analysis.proofs.uniq_jump_table_entries.Statement.{statement}
 use Rattle.analysis.proofs.uniq_jump_table_entries.Tie as tie
 
-section-of-requires : tie.Need-section-of-requires
-section-of-requires c κs = search needs
-
-holds-tables-requires : tie.Need-holds-tables-requires
-holds-tables-requires c κs = search needs
-
-cast-a : tie.Need-cast-a
-cast-a c = search needs
-
-known-size-requires : tie.Need-known-size-requires
-known-size-requires c κs = search needs
-
-first-size-requires : tie.Need-first-size-requires
-first-size-requires c κs = search needs
-
 table-of-size-requires : tie.Need-table-of-size-requires
 table-of-size-requires c κs = (search needs, (in-part _ _ _ _ (c .before .before .before .before .before .before .before .before .before .before .pre .1 .0) (c .before .before .before .before .before .section-of .ensures _ refl) (c .before .before .before .before .before .section-of .ensures _ refl) (c .before .before .before .before .before .before .before .before .before .before .pre .1 .1 .0) (no-bss _ _ (c .before .before .before .before .holds-tables .ensures) (c .before .before .before .if1 .taken)) _ refl, search needs))
-
-same-length : tie.Need-same-length
-same-length c = search needs
 
 returns : tie.Need-returns
 returns c = λ l e f g. table-found _ _ _ _ (c .before .before .before .before .before .before .before .before .before .before .before .before .before .pre .1 .0) l e f (c .before .before .before .before .before .before .before .before .section-of .ensures l e) _ (c .before .before .before .before .before .before .before .holds-tables .ensures) _ _ _ _ (c .before .before .before .before .before .before .if1 .taken) _ _ _ _ refl (in-part _ _ _ _ (c .before .before .before .before .before .before .before .before .before .before .before .before .before .pre .1 .0) (c .before .before .before .before .before .before .before .before .section-of .ensures _ refl) (c .before .before .before .before .before .before .before .before .section-of .ensures _ refl) (c .before .before .before .before .before .before .before .before .before .before .before .before .before .pre .1 .1 .0) (no-bss _ _ (c .before .before .before .before .before .before .before .holds-tables .ensures) (c .before .before .before .before .before .before .if1 .taken)) _ refl) (c .before .before .before .before .before .known-size .ensures l g) (c .before .before .before .before .first-size .ensures) (c .before .before .table-of-size .ensures)
@@ -36,12 +18,12 @@ pub uniq-jump-table-entries-spec : {M : Type 1} → statement M
 uniq-jump-table-entries-spec =
     tie.close
     (tie.spec
-    section-of-requires
-    holds-tables-requires
-    cast-a
-    known-size-requires
-    first-size-requires
+    (λ c κs. search needs)
+    (λ c κs. search needs)
+    (λ c. search needs)
+    (λ c κs. search needs)
+    (λ c κs. search needs)
     table-of-size-requires
-    same-length
+    (λ c. search needs)
     returns
     returns-2)

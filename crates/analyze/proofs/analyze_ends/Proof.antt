@@ -4,14 +4,8 @@ use borrow.Author.Needs.{needs}
 use Rattle.analyze.proofs.analyze_ends.Statement.{statement}
 use Rattle.analyze.proofs.analyze_ends.Tie as tie
 
-is-nowhere-requires : tie.Need-is-nowhere-requires
-is-nowhere-requires c κs = search needs
-
 returns : tie.Need-returns
 returns c = λ e vis. ends-nowhere e vis _ _ _ (c .before .before .before .before .before .pre) _ (c .before .is-nowhere .ensures) (c .if1 .taken)
-
-any-open-requires : tie.Need-any-open-requires
-any-open-requires c κs = search needs
 
 returns-2 : tie.Need-returns-2
 returns-2 c = λ e vis. ends-open e vis _ _ _ (c .before .before .before .before .before .before .before .pre) _ (c .before .before .before .is-nowhere .ensures) _ (c .before .any-open .ensures) (c .before .before .if1 .left) (c .if2 .taken) _ refl
@@ -21,4 +15,4 @@ returns-3 c = λ e vis. ends-found e vis _ _ _ (c .before .before .before .befor
 
 pub analyze-ends-spec : {M : Type 1} → statement M
 analyze-ends-spec =
-    tie.close (tie.spec is-nowhere-requires returns any-open-requires returns-2 returns-3)
+    tie.close (tie.spec (λ c κs. search needs) returns (λ c κs. search needs) returns-2 returns-3)

@@ -4,32 +4,14 @@ use borrow.Author.Needs.{needs}
 use Rattle.analyze.proofs.analyze_walk.Statement.{statement}
 use Rattle.analyze.proofs.analyze_walk.Tie as tie
 
-none-visited-requires : tie.Need-none-visited-requires
-none-visited-requires c κs = search needs
-
-new-walk-requires : tie.Need-new-walk-requires
-new-walk-requires c κs = search needs
-
 walk-and-passes-requires : tie.Need-walk-and-passes-requires
 walk-and-passes-requires c κs = let p = c .before .before .before .before .before .before .before .before .before .before .before .before .before .pre in (p .0, (begun-goes _ _ _ _ (c .new-walk .ensures) (p .1 .0) (p .1 .1), c .before .before .before .before .none-visited .ensures .1))
-
-same-length : tie.Need-same-length
-same-length c = search needs
-
-same-length-2 : tie.Need-same-length-2
-same-length-2 c = search needs
 
 returns : tie.Need-returns
 returns c = λ e o q. whole-fails e _ _ _ _ _ _ _ _ _ _ (c .before .before .before .before .before .before .before .before .before .before .before .before .none-visited .ensures .0) (c .before .before .before .before .before .before .before .before .new-walk .ensures) (c .before .before .before .before .before .before .before .walk-and-passes .ensures .1 e o q) (c .if1 .taken)
 
 analyze-ends-requires : tie.Need-analyze-ends-requires
 analyze-ends-requires c κs = let l = c .before .before .before .before .before .before .before .before .before .before .before .before .before .before .before .before .before .before .before .before .before .before .before .pre .0 in going-on (c .before .before .before .before .before .before .before .before .before .walk-and-passes .ensures .1 (l .around) (l .of) (l .outcomes)) (c .before .before .if1 .left)
-
-same-length-3 : tie.Need-same-length-3
-same-length-3 c = search needs
-
-same-length-4 : tie.Need-same-length-4
-same-length-4 c = search needs
 
 returns-2 : tie.Need-returns-2
 returns-2 c = λ e o q. whole-ends e _ _ _ _ _ _ _ _ _ _ (c .before .before .before .before .before .before .before .before .before .before .before .before .before .before .before .none-visited .ensures .0) (c .before .before .before .before .before .before .before .before .before .before .before .new-walk .ensures) (c .before .before .before .before .before .before .before .before .before .before .walk-and-passes .ensures .1 e o q) _ (c .before .before .before .if1 .left) (c .analyze-ends .ensures e _)
@@ -38,13 +20,13 @@ pub analyze-walk-spec : {M : Type 1} → statement M
 analyze-walk-spec =
     tie.close
     (tie.spec
-    none-visited-requires
-    new-walk-requires
+    (λ c κs. search needs)
+    (λ c κs. search needs)
     walk-and-passes-requires
-    same-length
-    same-length-2
+    (λ c. search needs)
+    (λ c. search needs)
     returns
     analyze-ends-requires
-    same-length-3
-    same-length-4
+    (λ c. search needs)
+    (λ c. search needs)
     returns-2)

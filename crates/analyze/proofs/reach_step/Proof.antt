@@ -10,15 +10,9 @@ next-part-requires c κs = let p = c .before .before .before .before .before .be
 run-pass-requires : tie.Need-run-pass-requires
 run-pass-requires c κs = (c .before .before .before .before .before .before .before .before .before .before .before .before .before .before .pre .0, (c .before .before .before .before .before .before .before .before .before .before .before .before .before .before .pre .1 .0, c .before .before .before .before .before .before .before .before .before .before .before .before .before .before .pre .1 .1))
 
-same-length : tie.Need-same-length
-same-length c = search needs
-
-same-length-2 : tie.Need-same-length-2
-same-length-2 c = search needs
-
 returns : tie.Need-returns
 returns c = (c .before .before .before .before .run-pass .ensures .0, λ e o q. reach-one e _ _ _ _ _ _ _ _ _ (c .before .before .before .before .before .before .before .before .next-part .ensures _ _ _ _ e o) (c .before .before .before .before .run-pass .ensures .1 e o q))
 
 pub reach-step-spec : {M : Type 1} → statement M
 reach-step-spec =
-    tie.close (tie.spec next-part-requires run-pass-requires same-length same-length-2 returns)
+    tie.close (tie.spec next-part-requires run-pass-requires (λ c. search needs) (λ c. search needs) returns)

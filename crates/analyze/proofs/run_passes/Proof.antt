@@ -8,23 +8,11 @@ use Rattle.analyze.proofs.run_passes.Tie as tie
 connect-requires : tie.Need-connect-requires
 connect-requires c κs = (c .before .before .before .before .before .before .before .before .before .before .before .pre .0, (c .before .before .before .before .before .before .before .before .before .before .before .pre .1 .0, c .before .before .before .before .before .before .before .before .before .before .before .pre .1 .1))
 
-same-length : tie.Need-same-length
-same-length c = search needs
-
-same-length-2 : tie.Need-same-length-2
-same-length-2 c = search needs
-
 returns : tie.Need-returns
 returns c = (c .before .before .before .before .before .before .connect .ensures .0, λ e o q. part-fails _ _ _ _ _ _ (rules.reach-end e) (passes-are e _) (c .before .before .before .before .before .before .connect .ensures .1 e o q) (c .if1 .taken))
 
 reach-end-requires : tie.Need-reach-end-requires
 reach-end-requires c κs = let l = c .before .before .before .before .before .before .before .before .before .before .before .before .before .before .before .before .before .before .before .before .before .pre .0 in (l, (going-on (c .before .before .before .before .before .before .before .before .before .connect .ensures .1 (l .around) (l .of) (l .outcomes)) (c .before .before .before .if1 .left), c .before .before .before .before .before .before .before .before .before .connect .ensures .0))
-
-same-length-3 : tie.Need-same-length-3
-same-length-3 c = search needs
-
-same-length-4 : tie.Need-same-length-4
-same-length-4 c = search needs
 
 returns-2 : tie.Need-returns-2
 returns-2 c = (c .before .before .before .before .reach-end .ensures .0, λ e o q. part-on _ _ _ _ _ _ (rules.reach-end e) (passes-are e _) (c .before .before .before .before .before .before .before .before .before .before .before .before .before .before .connect .ensures .1 e o q) _ _ _ _ (c .before .before .before .before .before .before .before .before .if1 .left) (c .before .before .before .before .reach-end .ensures .1 e o q))
@@ -34,10 +22,10 @@ run-passes-spec =
     tie.close
     (tie.spec
     connect-requires
-    same-length
-    same-length-2
+    (λ c. search needs)
+    (λ c. search needs)
     returns
     reach-end-requires
-    same-length-3
-    same-length-4
+    (λ c. search needs)
+    (λ c. search needs)
     returns-2)

@@ -16,9 +16,6 @@ abbrev μ-loop : tie.MeasureT-loop
 loop-holds : tie.Need-loop-holds Inv-loop μ-loop
 loop-holds c = skipping-first _ _ _
 
-cast-word : tie.Need-cast-word Inv-loop μ-loop
-cast-word c = search needs
-
 word-requires : tie.Need-word-requires Inv-loop μ-loop
 word-requires c κs = bytes-in _ _ _ _ _ _ _ (c .before .before .before .before .before .pre .of)
 
@@ -44,7 +41,7 @@ skip-nops-spec =
     Inv-loop
     μ-loop
     loop-holds
-    cast-word
+    (λ c. search needs)
     word-requires
     returns
     add-at

@@ -8,23 +8,11 @@ use Rattle.analyze.proofs.walk_and_passes.Tie as tie
 walk-from-requires : tie.Need-walk-from-requires
 walk-from-requires c κs = (c .before .before .before .before .before .before .before .before .before .before .before .pre .0, (c .before .before .before .before .before .before .before .before .before .before .before .pre .1 .0, c .before .before .before .before .before .before .before .before .before .before .before .pre .1 .1))
 
-same-length : tie.Need-same-length
-same-length c = search needs
-
-same-length-2 : tie.Need-same-length-2
-same-length-2 c = search needs
-
 returns : tie.Need-returns
 returns c = (c .before .before .before .before .before .before .walk-from .ensures .0, λ e o q. part-fails _ _ _ _ _ _ (passes e) (walk-is e _ _) (c .before .before .before .before .before .before .walk-from .ensures .1 e o q) (c .if1 .taken))
 
 run-passes-requires : tie.Need-run-passes-requires
 run-passes-requires c κs = let l = c .before .before .before .before .before .before .before .before .before .before .before .before .before .before .before .before .before .before .before .before .before .pre .0 in (l, (going-on (c .before .before .before .before .before .before .before .before .before .walk-from .ensures .1 (l .around) (l .of) (l .outcomes)) (c .before .before .before .if1 .left), c .before .before .before .before .before .before .before .before .before .walk-from .ensures .0))
-
-same-length-3 : tie.Need-same-length-3
-same-length-3 c = search needs
-
-same-length-4 : tie.Need-same-length-4
-same-length-4 c = search needs
 
 returns-2 : tie.Need-returns-2
 returns-2 c = (c .before .before .before .before .run-passes .ensures .0, λ e o q. part-on _ _ _ _ _ _ (passes e) (walk-is e _ _) (c .before .before .before .before .before .before .before .before .before .before .before .before .before .before .walk-from .ensures .1 e o q) _ _ _ _ (c .before .before .before .before .before .before .before .before .if1 .left) (c .before .before .before .before .run-passes .ensures .1 e o q))
@@ -34,10 +22,10 @@ walk-and-passes-spec =
     tie.close
     (tie.spec
     walk-from-requires
-    same-length
-    same-length-2
+    (λ c. search needs)
+    (λ c. search needs)
     returns
     run-passes-requires
-    same-length-3
-    same-length-4
+    (λ c. search needs)
+    (λ c. search needs)
     returns-2)

@@ -18,26 +18,11 @@ find-requires c κs = search (needs, starts-rise)
 before-place-requires : tie.Need-before-place-requires
 before-place-requires c κs = place-ends _ _ _ _ (c .before .before .before .before .before .pre .0) _ (c .before .find .ensures .place)
 
-has-room-requires : tie.Need-has-room-requires
-has-room-requires c κs = search needs
-
 cut-at-requires : tie.Need-cut-at-requires
 cut-at-requires c κs = reached (known (c .before .before .before .before)) (c .before .before .before .if1 .taken) (c .before .before .if2 .taken)
 
-same-length : tie.Need-same-length
-same-length c = search needs
-
-same-length-2 : tie.Need-same-length-2
-same-length-2 c = search needs
-
 returns : tie.Need-returns
 returns c = added-cut (known (c .before .before .before .before .before .before .before .before .before)) _ _ _ (c .before .before .before .before .before .before .before .before .if1 .taken) (c .before .before .before .before .before .before .before .if2 .taken) (c .before .before .before .before .cut-at .ensures)
-
-same-length-3 : tie.Need-same-length-3
-same-length-3 c = search needs
-
-same-length-4 : tie.Need-same-length-4
-same-length-4 c = search needs
 
 returns-2 : tie.Need-returns-2
 returns-2 c = added-held (known (c .before .before .before)) (c .before .before .if1 .taken) (c .before .if2 .left) (c .if3 .taken)
@@ -45,20 +30,8 @@ returns-2 c = added-held (known (c .before .before .before)) (c .before .before 
 put-at-requires : tie.Need-put-at-requires
 put-at-requires c κs = room-looked (known (c .before .before .before .before .before)) (c .before .before .before .before .if1 .taken)
 
-same-length-5 : tie.Need-same-length-5
-same-length-5 c = search needs
-
-same-length-6 : tie.Need-same-length-6
-same-length-6 c = search needs
-
 returns-3 : tie.Need-returns-3
 returns-3 c = added-open (known (c .before .before .before .before .before .before .before .before .before .before)) _ _ _ (c .before .before .before .before .before .before .before .before .before .if1 .taken) (c .before .before .before .before .before .before .before .before .if2 .left) (c .before .before .before .before .before .before .before .if3 .left) (c .before .before .before .before .put-at .ensures)
-
-same-length-7 : tie.Need-same-length-7
-same-length-7 c = search needs
-
-same-length-8 : tie.Need-same-length-8
-same-length-8 c = search needs
 
 returns-4 : tie.Need-returns-4
 returns-4 c = added-full (known (c .before)) (c .if1 .left)
@@ -69,18 +42,18 @@ add-block-start-spec =
     (tie.spec
     find-requires
     before-place-requires
-    has-room-requires
+    (λ c κs. search needs)
     cut-at-requires
-    same-length
-    same-length-2
+    (λ c. search needs)
+    (λ c. search needs)
     returns
-    same-length-3
-    same-length-4
+    (λ c. search needs)
+    (λ c. search needs)
     returns-2
     put-at-requires
-    same-length-5
-    same-length-6
+    (λ c. search needs)
+    (λ c. search needs)
     returns-3
-    same-length-7
-    same-length-8
+    (λ c. search needs)
+    (λ c. search needs)
     returns-4)

@@ -12,16 +12,10 @@ replace-at-requires c κs = search (needs, before-in)
 put-at-requires : tie.Need-put-at-requires
 put-at-requires c κs = trimmed-looked _ _ _ _ _ _ (c .before .before .before .before .before .before .before .before .before .pre) _ (c .before .before .before .before .replace-at .ensures)
 
-same-length : tie.Need-same-length
-same-length c = search needs
-
-same-length-2 : tie.Need-same-length-2
-same-length-2 c = search needs
-
 returns : tie.Need-returns
 returns c = cut-rows _ _ _ _ _ _ (c .before .before .before .before .before .before .before .before .before .before .before .before .before .before .pre) _ (c .before .before .before .before .before .before .before .before .before .replace-at .ensures) _ _ _ (c .before .before .before .before .put-at .ensures)
 
 pub cut-at-spec : {M : Type 1} → statement M
 cut-at-spec =
     tie.close
-    (tie.spec sub-q replace-at-requires put-at-requires same-length same-length-2 returns)
+    (tie.spec sub-q replace-at-requires put-at-requires (λ c. search needs) (λ c. search needs) returns)

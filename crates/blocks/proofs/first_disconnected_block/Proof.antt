@@ -18,53 +18,11 @@ abbrev μ-loop : tie.MeasureT-loop
 loop-holds : tie.Need-loop-holds Inv-loop μ-loop
 loop-holds c = (refl, refl)
 
-mul-is-apart : tie.Need-mul-is-apart Inv-loop μ-loop
-mul-is-apart c = search needs
-
-shared-slice-read-is-apart : tie.Need-shared-slice-read-is-apart Inv-loop μ-loop
-shared-slice-read-is-apart c = search needs
-
-mul-is-apart-2 : tie.Need-mul-is-apart-2 Inv-loop μ-loop
-mul-is-apart-2 c = search needs
-
-shared-slice-read-is-apart-2 : tie.Need-shared-slice-read-is-apart-2 Inv-loop μ-loop
-shared-slice-read-is-apart-2 c = search needs
-
-mul-is-apart-3 : tie.Need-mul-is-apart-3 Inv-loop μ-loop
-mul-is-apart-3 c = search needs
-
-shared-slice-read-is-apart-3 : tie.Need-shared-slice-read-is-apart-3 Inv-loop μ-loop
-shared-slice-read-is-apart-3 c = search needs
-
-mul-is-apart-4 : tie.Need-mul-is-apart-4 Inv-loop μ-loop
-mul-is-apart-4 c = search needs
-
-shared-slice-read-is-apart-4 : tie.Need-shared-slice-read-is-apart-4 Inv-loop μ-loop
-shared-slice-read-is-apart-4 c = search needs
-
-is-apart-requires : tie.Need-is-apart-requires Inv-loop μ-loop
-is-apart-requires c κs = search needs
-
-mul-t20 : tie.Need-mul-t20 Inv-loop μ-loop
-mul-t20 c = search needs
-
-shared-slice-read-t22 : tie.Need-shared-slice-read-t22 Inv-loop μ-loop
-shared-slice-read-t22 c = search needs
-
-mul-t23 : tie.Need-mul-t23 Inv-loop μ-loop
-mul-t23 c = search needs
-
-shared-slice-read-t25 : tie.Need-shared-slice-read-t25 Inv-loop μ-loop
-shared-slice-read-t25 c = search needs
-
 returns : tie.Need-returns Inv-loop μ-loop
 returns c =
     let start = c .before .before .before .before .before .before .before .before .before .before .before .before in
     let loop = c .before .before .before .before .before .before .before .before .before in
     found-apart _ _ _ _ _ (start .pre .0) (start .pre .1) (loop .loop .inv .0) (loop .loop .inv .1) _ (c .before .before .before .before .before .before .before .before .loop-test .taken) (c .before .before .before .is-apart .ensures) (c .before .before .if1 .taken)
-
-add-next : tie.Need-add-next Inv-loop μ-loop
-add-next c = search needs
 
 loop-less : tie.Need-loop-less Inv-loop μ-loop
 loop-less c = omega arith
@@ -85,21 +43,21 @@ first-disconnected-block-spec =
     Inv-loop
     μ-loop
     loop-holds
-    mul-is-apart
-    shared-slice-read-is-apart
-    mul-is-apart-2
-    shared-slice-read-is-apart-2
-    mul-is-apart-3
-    shared-slice-read-is-apart-3
-    mul-is-apart-4
-    shared-slice-read-is-apart-4
-    is-apart-requires
-    mul-t20
-    shared-slice-read-t22
-    mul-t23
-    shared-slice-read-t25
+    (λ c. search needs)
+    (λ c. search needs)
+    (λ c. search needs)
+    (λ c. search needs)
+    (λ c. search needs)
+    (λ c. search needs)
+    (λ c. search needs)
+    (λ c. search needs)
+    (λ c κs. search needs)
+    (λ c. search needs)
+    (λ c. search needs)
+    (λ c. search needs)
+    (λ c. search needs)
     returns
-    add-next
+    (λ c. search needs)
     loop-less
     loop-again
     returns-2)

@@ -3,11 +3,8 @@ use borrow.Author.Needs.{needs}
 use Rattle.blocks.proofs.last_start.Statement.{statement}
 use Rattle.blocks.proofs.last_start.Tie as tie
 
-before-place-requires : tie.Need-before-place-requires
-before-place-requires c κs = search needs
-
 returns : tie.Need-returns
 returns c = search (needs, last-start-is)
 
 pub last-start-spec : {M : Type 1} → statement M
-last-start-spec = tie.close (tie.spec before-place-requires returns)
+last-start-spec = tie.close (tie.spec (λ c κs. search needs) returns)

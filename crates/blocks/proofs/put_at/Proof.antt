@@ -6,9 +6,6 @@ use Rattle.blocks.proofs.put_at.Tie as tie
 replace-at-requires : tie.Need-replace-at-requires
 replace-at-requires c κs = search (needs, looked-lt)
 
-same-length : tie.Need-same-length
-same-length c = search needs
-
 returns : tie.Need-returns
 returns c = search (needs, put-held-row)
 
@@ -18,15 +15,6 @@ insert-at-requires c κs = (search (needs, looked-le), search (needs, spare-star
 insert-at-requires-2 : tie.Need-insert-at-requires-2
 insert-at-requires-2 c κs = (search (needs, looked-le), spare-ends _ _ _ _ _ (c .before .before .before .before .before .before .before .before .pre) (c .before .before .before .before .before .if1 .left))
 
-add-result : tie.Need-add-result
-add-result c = search needs
-
-same-length-2 : tie.Need-same-length-2
-same-length-2 c = search needs
-
-same-length-3 : tie.Need-same-length-3
-same-length-3 c = search needs
-
 returns-2 : tie.Need-returns-2
 returns-2 c = search (needs, put-new-row)
 
@@ -35,11 +23,11 @@ put-at-spec =
     tie.close
     (tie.spec
     replace-at-requires
-    same-length
+    (λ c. search needs)
     returns
     insert-at-requires
     insert-at-requires-2
-    add-result
-    same-length-2
-    same-length-3
+    (λ c. search needs)
+    (λ c. search needs)
+    (λ c. search needs)
     returns-2)

@@ -7,23 +7,11 @@ use Rattle.blocks.proofs.set_end.Tie as tie
 find-requires : tie.Need-find-requires
 find-requires c κs = search (needs, starts-rise)
 
-has-room-requires : tie.Need-has-room-requires
-has-room-requires c κs = search needs
-
 put-at-requires : tie.Need-put-at-requires
 put-at-requires c κs = search (needs, looked)
 
-same-length : tie.Need-same-length
-same-length c = search needs
-
-same-length-2 : tie.Need-same-length-2
-same-length-2 c = search needs
-
 returns : tie.Need-returns
 returns c = search (needs, stored)
-
-same-length-3 : tie.Need-same-length-3
-same-length-3 c = search needs
 
 returns-2 : tie.Need-returns-2
 returns-2 c = search (needs, not-stored)
@@ -33,10 +21,10 @@ set-end-spec =
     tie.close
     (tie.spec
     find-requires
-    has-room-requires
+    (λ c κs. search needs)
     put-at-requires
-    same-length
-    same-length-2
+    (λ c. search needs)
+    (λ c. search needs)
     returns
-    same-length-3
+    (λ c. search needs)
     returns-2)

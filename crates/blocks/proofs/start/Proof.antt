@@ -6,11 +6,8 @@ use Rattle.blocks.proofs.start.Tie as tie
 returns : tie.Need-returns
 returns c = search (needs, start-none)
 
-shared-slice-read-result : tie.Need-shared-slice-read-result
-shared-slice-read-result c = search needs
-
 returns-2 : tie.Need-returns-2
 returns-2 c = search (needs, start-some)
 
 pub start-spec : {M : Type 1} → statement M
-start-spec = tie.close (tie.spec returns shared-slice-read-result returns-2)
+start-spec = tie.close (tie.spec returns (λ c. search needs) returns-2)

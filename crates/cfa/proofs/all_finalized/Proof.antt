@@ -3,9 +3,6 @@ use borrow.Author.Needs.{needs}
 use Rattle.cfa.proofs.all_finalized.Statement.{statement}
 use Rattle.cfa.proofs.all_finalized.Tie as tie
 
-any-unfinalized-requires : tie.Need-any-unfinalized-requires
-any-unfinalized-requires c κs = search needs
-
 returns : tie.Need-returns
 returns c = λ im cap es h. some-remain im cap es _ _ _ _ h _ (c .before .any-unfinalized .ensures es h) (c .if1 .taken)
 
@@ -16,6 +13,6 @@ pub all-finalized-spec : {M : Type 1} → statement M
 all-finalized-spec =
     tie.close
     (tie.spec
-    any-unfinalized-requires
+    (λ c κs. search needs)
     returns
     returns-2)

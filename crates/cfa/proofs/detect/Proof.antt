@@ -10,21 +10,6 @@ walk-given-requires c κs =
     let p = c .before .before .before .before .before .before .before .before .before .before .before .before .before .before .before .before .before .pre in
     (handed-displayed _ _ _ _ _ _ _ _ (p .0), p .1)
 
-same-length : tie.Need-same-length
-same-length c = search needs
-
-same-length-2 : tie.Need-same-length-2
-same-length-2 c = search needs
-
-same-length-3 : tie.Need-same-length-3
-same-length-3 c = search needs
-
-same-length-4 : tie.Need-same-length-4
-same-length-4 c = search needs
-
-same-length-5 : tie.Need-same-length-5
-same-length-5 c = search needs
-
 returns : tie.Need-returns
 returns c = λ l q e. given-fails (image l) _ _ _ _ _ _ (c .before .before .before .before .before .before .before .before .before .before .before .before .walk-given .ensures l q e) (c .if1 .taken)
 
@@ -33,21 +18,6 @@ finish-rounds-requires c κs =
     let p = c .before .before .before .before .before .before .before .before .before .before .before .before .before .before .before .before .before .before .before .before .before .before .before .before .before .before .before .before .before .before .before .before .before .before .before .pre in
     let g = p .0 in
     (given-ready _ _ _ _ _ _ _ _ (g .lent) (g .displays) _ _ _ _ _ (c .before .before .before .before .before .before .before .before .before .before .before .before .before .before .before .before .before .walk-given .ensures (g .lent) (g .displays) (g .entry)) (c .before .before .before .before .before .if1 .left), ((c .before .before .before .before .before .before .before .before .before .before .k .given) ∙ p .1 .1 .0, (c .before .before .before .before .before .before .before .before .v .given) ∙ p .1 .1 .1))
-
-same-length-6 : tie.Need-same-length-6
-same-length-6 c = search needs
-
-same-length-7 : tie.Need-same-length-7
-same-length-7 c = search needs
-
-same-length-8 : tie.Need-same-length-8
-same-length-8 c = search needs
-
-same-length-9 : tie.Need-same-length-9
-same-length-9 c = search needs
-
-same-length-10 : tie.Need-same-length-10
-same-length-10 c = search needs
 
 returns-2 : tie.Need-returns-2
 returns-2 c = λ l q e.
@@ -61,16 +31,16 @@ detect-spec =
     tie.close
     (tie.spec
     walk-given-requires
-    same-length
-    same-length-2
-    same-length-3
-    same-length-4
-    same-length-5
+    (λ c. search needs)
+    (λ c. search needs)
+    (λ c. search needs)
+    (λ c. search needs)
+    (λ c. search needs)
     returns
     finish-rounds-requires
-    same-length-6
-    same-length-7
-    same-length-8
-    same-length-9
-    same-length-10
+    (λ c. search needs)
+    (λ c. search needs)
+    (λ c. search needs)
+    (λ c. search needs)
+    (λ c. search needs)
     returns-2)

@@ -5,9 +5,6 @@ use borrow.Author.Needs.{needs}
 use Rattle.cfa.proofs.detect_functions.Statement.{statement}
 use Rattle.cfa.proofs.detect_functions.Tie as tie
 
-check-requires : tie.Need-check-requires
-check-requires c κs = search needs
-
 returns : tie.Need-returns
 returns c =
     let g = c .before .before .before .before .before .before .before .before .before .before .before .args in
@@ -26,12 +23,6 @@ map-checked-requires c κs =
     let l : Lent = lent (g .sections .now) (g .bytes .now) (g .outcomes .now) (g .functions .now) (g .objects .now) (g .skips .now) (g .entry .now) in
     handed-of l _ (sym (c .before .before .before .before .check .ensures) ∙ c .before .before .before .if1 .left) (c .before .before .code-section .ensures l refl)
 
-same-length : tie.Need-same-length
-same-length c = search needs
-
-same-length-2 : tie.Need-same-length-2
-same-length-2 c = search needs
-
 returns-2 : tie.Need-returns-2
 returns-2 c =
     let g = c .before .before .before .before .before .before .before .before .before .before .before .before .before .before .before .before .before .before .before .args in
@@ -44,10 +35,10 @@ pub detect-functions-spec : {M : Type 1} → statement M
 detect-functions-spec =
     tie.close
     (tie.spec
-    check-requires
+    (λ c κs. search needs)
     returns
     code-section-requires
     map-checked-requires
-    same-length
-    same-length-2
+    (λ c. search needs)
+    (λ c. search needs)
     returns-2)

@@ -8,21 +8,6 @@ use Rattle.cfa.proofs.finish_rounds.Tie as tie
 process-functions-requires : tie.Need-process-functions-requires
 process-functions-requires c κs = c .before .before .before .before .before .before .before .before .before .before .before .before .before .before .before .before .pre
 
-same-length : tie.Need-same-length
-same-length c = search needs
-
-same-length-2 : tie.Need-same-length-2
-same-length-2 c = search needs
-
-same-length-3 : tie.Need-same-length-3
-same-length-3 c = search needs
-
-same-length-4 : tie.Need-same-length-4
-same-length-4 c = search needs
-
-same-length-5 : tie.Need-same-length-5
-same-length-5 c = search needs
-
 returns : tie.Need-returns
 returns c = λ l es q h t. rounds-fail (image l) _ es _ _ _ _ _ (c .before .before .before .before .before .before .before .before .before .before .before .before .process-functions .ensures l es q h t) (c .if1 .taken)
 
@@ -32,21 +17,6 @@ last-rounds-requires c κs =
     let g = p .0 in
     let i = c .before .before .before .before .before .before .before .before .before .before .before .before .before .before .before .before .before .process-functions .ensures (g .lent) (g .entries) (g .displays) (g .holds) (g .sane) in
     (rounds-ready _ _ _ _ _ _ _ _ (g .lent) (g .displays) (g .entries) (g .sane) _ _ _ _ _ i (c .before .before .before .before .before .if1 .left), ((c .before .before .before .before .before .before .before .before .before .before .k .given) ∙ p .1 .0, (c .before .before .before .before .before .before .before .before .v .given) ∙ p .1 .1))
-
-same-length-6 : tie.Need-same-length-6
-same-length-6 c = search needs
-
-same-length-7 : tie.Need-same-length-7
-same-length-7 c = search needs
-
-same-length-8 : tie.Need-same-length-8
-same-length-8 c = search needs
-
-same-length-9 : tie.Need-same-length-9
-same-length-9 c = search needs
-
-same-length-10 : tie.Need-same-length-10
-same-length-10 c = search needs
 
 returns-2 : tie.Need-returns-2
 returns-2 c = λ l es q h t.
@@ -76,12 +46,6 @@ same-length-12 c = (c .before .before .before .before .before .before .before .b
 same-length-13 : tie.Need-same-length-13
 same-length-13 c = (c .before .before .before .before .before .before .before .before .before .before .before .lists2 .given) ∙ (c .before .before .before .before .before .before .before .before .before .before .before .before .before .before .before .before .before .before .before .before .before .before .before .before .before .before .before .before .before .lists .given)
 
-same-length-14 : tie.Need-same-length-14
-same-length-14 c = search needs
-
-same-length-15 : tie.Need-same-length-15
-same-length-15 c = search needs
-
 returns-3 : tie.Need-returns-3
 returns-3 c = λ l es q h t.
     let i = c .before .before .before .before .before .before .before .before .before .before .before .before .before .before .before .before .before .before .before .before .before .before .before .before .before .before .before .before .before .before .before .before .before .before .process-functions .ensures l es q h t in
@@ -97,23 +61,23 @@ finish-rounds-spec =
     tie.close
     (tie.spec
     process-functions-requires
-    same-length
-    same-length-2
-    same-length-3
-    same-length-4
-    same-length-5
+    (λ c. search needs)
+    (λ c. search needs)
+    (λ c. search needs)
+    (λ c. search needs)
+    (λ c. search needs)
     returns
     last-rounds-requires
-    same-length-6
-    same-length-7
-    same-length-8
-    same-length-9
-    same-length-10
+    (λ c. search needs)
+    (λ c. search needs)
+    (λ c. search needs)
+    (λ c. search needs)
+    (λ c. search needs)
     returns-2
     all-finalized-requires
     same-length-11
     same-length-12
     same-length-13
-    same-length-14
-    same-length-15
+    (λ c. search needs)
+    (λ c. search needs)
     returns-3)

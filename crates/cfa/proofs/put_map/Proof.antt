@@ -10,23 +10,11 @@ clear-requires c κs = omega arith
 clear-requires-2 : tie.Need-clear-requires-2
 clear-requires-2 c κs = omega arith
 
-same-length : tie.Need-same-length
-same-length c = search needs
-
-same-length-2 : tie.Need-same-length-2
-same-length-2 c = search needs
-
 returns : tie.Need-returns
 returns c = λ a m e. left-zero _ _ _ _ _ (c .before .before .before .before .before .before .before .before .if1 .taken) _ _ (c .before .before .before .before .before .before .clear .ensures) (c .before .before .clear2 .ensures) a m e
 
 put-results-requires : tie.Need-put-results-requires
 put-results-requires c κs = let g = c .before .before .before .before .before .before .before .before .pre in let z = c .before .before .if1 .left in (g .good z, g .room z)
-
-same-length-3 : tie.Need-same-length-3
-same-length-3 c = search needs
-
-same-length-4 : tie.Need-same-length-4
-same-length-4 c = search needs
 
 returns-2 : tie.Need-returns-2
 returns-2 c = λ a m e. left-map _ _ _ _ _ (c .before .before .before .before .before .before .before .if1 .left) _ _ _ (c .before .before .before .before .put-results .ensures) a m e
@@ -37,10 +25,10 @@ put-map-spec =
     (tie.spec
     clear-requires
     clear-requires-2
-    same-length
-    same-length-2
+    (λ c. search needs)
+    (λ c. search needs)
     returns
     put-results-requires
-    same-length-3
-    same-length-4
+    (λ c. search needs)
+    (λ c. search needs)
     returns-2)

@@ -15,12 +15,6 @@ abbrev μ-loop : tie.MeasureT-loop
 loop-holds : tie.Need-loop-holds Inv-loop μ-loop
 loop-holds c = adding-first _ _ _ _ _ _ _ (c .before .before .before .before .pre .0)
 
-mul-add-entry : tie.Need-mul-add-entry Inv-loop μ-loop
-mul-add-entry c = search needs
-
-shared-slice-read-add-entry : tie.Need-shared-slice-read-add-entry Inv-loop μ-loop
-shared-slice-read-add-entry c = search needs
-
 add-entry-requires : tie.Need-add-entry-requires Inv-loop μ-loop
 add-entry-requires c κs = c .before .before .before .before .loop .inv .each .good
 
@@ -32,9 +26,6 @@ same-length-2 c = c .before .before .before .infos .given ∙ c .before .before 
 
 returns : tie.Need-returns Inv-loop μ-loop
 returns c = adding-stops _ _ _ _ _ _ _ _ _ _ _ _ (c .before .before .before .before .before .before .before .before .before .before .before .loop .inv) (c .before .before .before .before .before .before .before .before .before .before .loop-test .taken) (c .before .before .before .before .before .before .before .before .before .before .before .before .before .before .before .before .pre .1) _ _ _ _ (λ es h. c .before .before .before .before .before .before .add-entry .ensures es h .told) (c .if1 .taken)
-
-add-i : tie.Need-add-i Inv-loop μ-loop
-add-i c = search needs
 
 loop-less : tie.Need-loop-less Inv-loop μ-loop
 loop-less c = omega (arith, c .before .before .before .before .before .before .before .before .before .before .loop-test .taken)
@@ -58,13 +49,13 @@ add-entries-spec =
     Inv-loop
     μ-loop
     loop-holds
-    mul-add-entry
-    shared-slice-read-add-entry
+    (λ c. search needs)
+    (λ c. search needs)
     add-entry-requires
     same-length
     same-length-2
     returns
-    add-i
+    (λ c. search needs)
     loop-less
     loop-again
     same-length-3

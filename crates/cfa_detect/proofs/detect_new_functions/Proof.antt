@@ -6,29 +6,14 @@ use borrow.Author.Needs.{needs}
 use Rattle.cfa_detect.proofs.detect_new_functions.Statement.{statement}
 use Rattle.cfa_detect.proofs.detect_new_functions.Tie as tie
 
-slice-aggregate-new-functions : tie.Need-slice-aggregate-new-functions
-slice-aggregate-new-functions c = search needs
-
 new-functions-requires : tie.Need-new-functions-requires
 new-functions-requires c κs = (c .before .before .before .before .before .before .before .pre .0, (c .before .before .before .before .before .before .before .pre .1 .0, (c .before .before .before .before .before .before .before .pre .1 .1 .holds .kept, refl)))
-
-same-length : tie.Need-same-length
-same-length c = search needs
 
 returns : tie.Need-returns
 returns c = λ l es q h. round-stops (image l) _ _ _ _ _ es _ (c .before .before .before .new-functions .ensures .is l _ es q (h .knows)) _ (c .if1 .taken)
 
-slice-aggregate-add-entries : tie.Need-slice-aggregate-add-entries
-slice-aggregate-add-entries c = search needs
-
 add-entries-requires : tie.Need-add-entries-requires
 add-entries-requires c κs = (c .before .before .before .before .before .before .before .before .before .before .before .before .before .before .pre .1 .1, omega (arith, c .before .before .before .before .before .before .new-functions .ensures .few, c .before .before .before .before .before .before .before .before .before .before .before .before .before .before .pre .1 .1 .holds .kept .few, c .before .before .before .before .before .keys2 .given))
-
-same-length-2 : tie.Need-same-length-2
-same-length-2 c = search needs
-
-same-length-3 : tie.Need-same-length-3
-same-length-3 c = search needs
 
 returns-2 : tie.Need-returns-2
 returns-2 c = λ l es q h. round-told (image l) _ _ _ _ _ es _ (c .before .before .before .before .before .before .before .before .before .before .before .before .new-functions .ensures .is l _ es q (h .knows)) (omega (arith, c .before .before .before .before .before .before .before .before .before .before .before .before .new-functions .ensures .few, c .before .before .before .before .before .before .before .before .before .before .before .before .before .before .before .before .before .before .before .before .pre .1 .1 .holds .kept .few, c .before .before .before .before .before .before .before .before .before .before .before .keys2 .given)) _ _ refl (c .before .before .before .before .before .before .before .before .before .if1 .left) (c .before .before .before .before .before .add-entries .ensures (image l) es h)
@@ -37,12 +22,12 @@ pub detect-new-functions-spec : {M : Type 1} → statement M
 detect-new-functions-spec =
     tie.close
     (tie.spec
-    slice-aggregate-new-functions
+    (λ c. search needs)
     new-functions-requires
-    same-length
+    (λ c. search needs)
     returns
-    slice-aggregate-add-entries
+    (λ c. search needs)
     add-entries-requires
-    same-length-2
-    same-length-3
+    (λ c. search needs)
+    (λ c. search needs)
     returns-2)

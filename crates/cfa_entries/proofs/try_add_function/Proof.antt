@@ -3,23 +3,8 @@ use borrow.Author.Needs.{needs}
 use Rattle.cfa_entries.proofs.try_add_function.Statement.{statement}
 use Rattle.cfa_entries.proofs.try_add_function.Tie as tie
 
-cast-in-skipped-range : tie.Need-cast-in-skipped-range
-cast-in-skipped-range c = search needs
-
-in-skipped-range-requires : tie.Need-in-skipped-range-requires
-in-skipped-range-requires c κs = search needs
-
 returns : tie.Need-returns
 returns c = λ l es q h. told-skipped l _ _ q _ _ _ es _ _ _ (c .before .before .if1 .taken) _ (c .before .in-skipped-range .ensures l (q .skips)) h (c .if2 .taken)
-
-add-entry-requires : tie.Need-add-entry-requires
-add-entry-requires c κs = search needs
-
-same-length : tie.Need-same-length
-same-length c = search needs
-
-same-length-2 : tie.Need-same-length-2
-same-length-2 c = search needs
 
 returns-2 : tie.Need-returns-2
 returns-2 c = λ l es q h. told-added l _ _ q _ _ es _ (c .before .before .before .before .before .before .before .before .before .if1 .taken) _ (c .before .before .before .before .before .before .before .before .in-skipped-range .ensures l (q .skips)) _ _ _ (c .before .before .before .before .before .before .before .if2 .left) (c .before .before .before .before .add-entry .ensures es h)
@@ -31,11 +16,11 @@ pub try-add-function-spec : {M : Type 1} → statement M
 try-add-function-spec =
     tie.close
     (tie.spec
-    cast-in-skipped-range
-    in-skipped-range-requires
+    (λ c. search needs)
+    (λ c κs. search needs)
     returns
-    add-entry-requires
-    same-length
-    same-length-2
+    (λ c κs. search needs)
+    (λ c. search needs)
+    (λ c. search needs)
     returns-2
     returns-3)

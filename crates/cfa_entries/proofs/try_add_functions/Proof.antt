@@ -15,12 +15,6 @@ abbrev μ-loop : tie.MeasureT-loop
 loop-holds : tie.Need-loop-holds Inv-loop μ-loop
 loop-holds c = adding-first _ _ _ _ _ _ _ _ _ (c .before .before .before .before .before .pre .0)
 
-mul-try-add-function : tie.Need-mul-try-add-function Inv-loop μ-loop
-mul-try-add-function c = search needs
-
-shared-slice-read-try-add-function : tie.Need-shared-slice-read-try-add-function Inv-loop μ-loop
-shared-slice-read-try-add-function c = search needs
-
 try-add-function-requires : tie.Need-try-add-function-requires Inv-loop μ-loop
 try-add-function-requires c κs = (c .before .before .before .before .loop .inv .each .good, c .before .before .before .before .before .before .before .before .before .before .pre .1 .0)
 
@@ -32,9 +26,6 @@ same-length-2 c = c .before .before .before .infos .given ∙ c .before .before 
 
 returns : tie.Need-returns Inv-loop μ-loop
 returns c = adding-stops _ _ _ _ _ _ _ _ _ _ _ _ _ _ (c .before .before .before .before .before .before .before .before .before .before .before .loop .inv) (c .before .before .before .before .before .before .before .before .before .before .loop-test .taken) (c .before .before .before .before .before .before .before .before .before .before .before .before .before .before .before .before .before .pre .1 .1 .1) _ _ _ _ (c .before .before .before .before .before .before .try-add-function .ensures) (c .if1 .taken)
-
-add-i : tie.Need-add-i Inv-loop μ-loop
-add-i c = search needs
 
 loop-less : tie.Need-loop-less Inv-loop μ-loop
 loop-less c = let h = c .before .before .before .before .before .before .before .before .before .before .loop-test .taken in omega (arith, h)
@@ -58,13 +49,13 @@ try-add-functions-spec =
     Inv-loop
     μ-loop
     loop-holds
-    mul-try-add-function
-    shared-slice-read-try-add-function
+    (λ c. search needs)
+    (λ c. search needs)
     try-add-function-requires
     same-length
     same-length-2
     returns
-    add-i
+    (λ c. search needs)
     loop-less
     loop-again
     same-length-3

@@ -7,35 +7,11 @@ use Rattle.cfa_first.proofs.walk_given.Tie as tie
 first-entries-requires : tie.Need-first-entries-requires
 first-entries-requires c κs = let p = c .before .before .before .before .before .before .before .before .before .before .before .before .before .before .before .pre in (listed _ _ _ _ _ _ _ (p .0), p .1 .0)
 
-same-length : tie.Need-same-length
-same-length c = search needs
-
-same-length-2 : tie.Need-same-length-2
-same-length-2 c = search needs
-
-same-length-3 : tie.Need-same-length-3
-same-length-3 c = search needs
-
 returns : tie.Need-returns
 returns c = λ l q p. walk-fails l _ _ _ _ _ _ (c .before .before .before .before .before .before .first-entries .ensures l (lists-of l _ _ _ _ _ _ _ q)) (c .if1 .taken)
 
 process-given-requires : tie.Need-process-given-requires
 process-given-requires c κs = let p = c .before .before .before .before .before .before .before .before .before .before .before .before .before .before .before .before .before .before .before .before .before .before .before .before .before .before .before .pre in (p .0, (walk-good (p .0 .lent) _ _ _ _ _ _ (c .before .before .before .before .before .before .before .before .before .before .before .first-entries .ensures (p .0 .lent) (lists-of (p .0 .lent) _ _ _ _ _ _ _ (p .0 .displays))) (c .before .before .before .before .before .if1 .left), p .1 .1))
-
-same-length-4 : tie.Need-same-length-4
-same-length-4 c = search needs
-
-same-length-5 : tie.Need-same-length-5
-same-length-5 c = search needs
-
-same-length-6 : tie.Need-same-length-6
-same-length-6 c = search needs
-
-same-length-7 : tie.Need-same-length-7
-same-length-7 c = search needs
-
-same-length-8 : tie.Need-same-length-8
-same-length-8 c = search needs
 
 returns-2 : tie.Need-returns-2
 returns-2 c = λ l q p. walk-goes l _ _ _ _ _ _ (c .before .before .before .before .before .before .before .before .before .before .before .before .before .before .before .before .before .before .before .before .before .before .first-entries .ensures l (lists-of l _ _ _ _ _ _ _ q)) (c .before .before .before .before .before .before .before .before .before .before .before .before .before .before .before .before .if1 .left) _ _ _ _ _ (λ es h. c .before .before .before .before .before .before .before .before .before .before .process-given .ensures l es q p h)
@@ -45,14 +21,14 @@ walk-given-spec =
     tie.close
     (tie.spec
     first-entries-requires
-    same-length
-    same-length-2
-    same-length-3
+    (λ c. search needs)
+    (λ c. search needs)
+    (λ c. search needs)
     returns
     process-given-requires
-    same-length-4
-    same-length-5
-    same-length-6
-    same-length-7
-    same-length-8
+    (λ c. search needs)
+    (λ c. search needs)
+    (λ c. search needs)
+    (λ c. search needs)
+    (λ c. search needs)
     returns-2)

@@ -3,20 +3,8 @@ use borrow.Author.Needs.{needs}
 use Rattle.cfa_process.proofs.analyze_at.Statement.{statement}
 use Rattle.cfa_process.proofs.analyze_at.Tie as tie
 
-empty-requires : tie.Need-empty-requires
-empty-requires c κs = search needs
-
-end-of-entry-requires : tie.Need-end-of-entry-requires
-end-of-entry-requires c κs = search needs
-
 analyze-requires : tie.Need-analyze-requires
 analyze-requires c κs = (lends-some _ _ _ _ _ _ _ (c .before .before .before .before .before .before .before .before .before .before .before .before .before .before .before .pre .0) _ _ (c .before .before .before .before .before .before .before .before .before .before .before .before .before .before .before .pre .1 .0) _ _ (c .before .before .end-of-entry .ensures), nothing-fits _ _ _ _ (c .before .before .before .empty .ensures))
-
-same-length : tie.Need-same-length
-same-length c = search needs
-
-same-length-2 : tie.Need-same-length-2
-same-length-2 c = search needs
 
 returns : tie.Need-returns
 returns c = λ l cap es q h. from-nothing _ _ _ _ _ _ _ _ (c .before .before .before .before .before .before .before .before .empty .ensures) (c .before .before .before .before .analyze .ensures _ (lends l _ _ _ _ _ _ _ q cap _ _ es (c .before .before .before .before .before .before .before .before .before .before .before .before .before .before .before .before .before .before .before .before .pre .1 .0 .kept) h _ _ (c .before .before .before .before .before .before .before .end-of-entry .ensures es h)) (lends-outcomes l _ _ _ _ _ _ _ q cap _ _ es (c .before .before .before .before .before .before .before .before .before .before .before .before .before .before .before .before .before .before .before .before .pre .1 .0 .kept) h _ _ (c .before .before .before .before .before .before .before .end-of-entry .ensures es h)))
@@ -25,9 +13,9 @@ pub analyze-at-spec : {M : Type 1} → statement M
 analyze-at-spec =
     tie.close
     (tie.spec
-    empty-requires
-    end-of-entry-requires
+    (λ c κs. search needs)
+    (λ c κs. search needs)
     analyze-requires
-    same-length
-    same-length-2
+    (λ c. search needs)
+    (λ c. search needs)
     returns)

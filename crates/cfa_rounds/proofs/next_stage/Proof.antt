@@ -7,11 +7,8 @@ use Rattle.cfa_rounds.proofs.next_stage.Tie as tie
 returns : tie.Need-returns
 returns c = sym (if-true (c .if1 .taken) 0 _)
 
-add-result : tie.Need-add-result
-add-result c = search needs
-
 returns-2 : tie.Need-returns-2
 returns-2 c = sym (if-false (c .if1 .left) 0 _)
 
 pub next-stage-spec : {M : Type 1} → statement M
-next-stage-spec = tie.close (tie.spec returns add-result returns-2)
+next-stage-spec = tie.close (tie.spec returns (λ c. search needs) returns-2)

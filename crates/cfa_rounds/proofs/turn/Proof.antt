@@ -5,12 +5,6 @@ use borrow.Author.Needs.{needs}
 use Rattle.cfa_rounds.proofs.turn.Statement.{statement}
 use Rattle.cfa_rounds.proofs.turn.Tie as tie
 
-mul-process-function-at : tie.Need-mul-process-function-at
-mul-process-function-at c = search needs
-
-shared-slice-read-process-function-at : tie.Need-shared-slice-read-process-function-at
-shared-slice-read-process-function-at c = search needs
-
 process-function-at-requires : tie.Need-process-function-at-requires
 process-function-at-requires c κs = let p = c .before .before .before .before .before .before .before .before .before .before .before .before .before .before .before .before .before .before .before .pre in (p .0, (p .1 .0, p .1 .1 .0))
 
@@ -63,8 +57,8 @@ pub turn-spec : {M : Type 1} → statement M
 turn-spec =
     tie.close
     (tie.spec
-    mul-process-function-at
-    shared-slice-read-process-function-at
+    (λ c. search needs)
+    (λ c. search needs)
     process-function-at-requires
     add-t31
     same-length

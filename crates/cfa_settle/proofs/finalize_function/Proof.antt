@@ -5,41 +5,14 @@ use borrow.Author.Needs.{needs}
 use Rattle.cfa_settle.proofs.finalize_function.Statement.{statement}
 use Rattle.cfa_settle.proofs.finalize_function.Tie as tie
 
-load-at-requires : tie.Need-load-at-requires
-load-at-requires c κs = search needs
-
 settle-lists-requires : tie.Need-settle-lists-requires
 settle-lists-requires c κs = let p = c .before .before .before .before .before .before .before .before .before .before .before .before .before .before .before .before .before .before .before .before .before .before .before .before .pre in let r = p .1 .0 in let i = c .before .before .before .before .before .before .before .load-at .ensures (r .entries) (r .slices) (r .holds) (r .owns) in (p .0, (knowing-of _ _ _ _ _ r, (loaded-fits _ _ _ _ _ i, loaded-low _ _ _ _ _ i (r .low))))
-
-same-length : tie.Need-same-length
-same-length c = search needs
-
-same-length-2 : tie.Need-same-length-2
-same-length-2 c = search needs
-
-same-length-3 : tie.Need-same-length-3
-same-length-3 c = search needs
-
-same-length-4 : tie.Need-same-length-4
-same-length-4 c = search needs
-
-same-length-5 : tie.Need-same-length-5
-same-length-5 c = search needs
 
 returns : tie.Need-returns
 returns c = λ l es s q h o. settling-fails l _ _ _ s es _ _ _ _ (loaded-settled s _ _ _ _ (c .before .before .before .before .before .before .before .before .before .before .before .before .before .before .load-at .ensures es s h o) l (record { entries = 0; numbers = 0 }) _ _ es _ _ _ (c .before .before .before .before .before .before .settle-lists .ensures l (record { entries = 0; numbers = 0 }) es q (h .knows))) _ _ _ _ (c .if1 .taken)
 
 keep-settled-requires : tie.Need-keep-settled-requires
 keep-settled-requires c κs = let p = c .before .before .before .before .before .before .before .before .before .before .before .before .before .before .before .before .before .before .before .before .before .before .before .before .before .before .before .before .before .before .before .before .before .before .before .before .before .before .pre in let r = p .1 .0 in (good-of _ _ _ _ _ r, ((c .before .before .before .before .before .before .before .before .before .before .before .before .before .settle-lists .ensures (p .0 .lent) (record { entries = 0; numbers = 0 }) (r .entries) (p .0 .displays) (r .holds .knows) .fit (c .before .before .before .before .before .before .before .if1 .left), c .before .before .before .before .before .before .before .if1 .left), shown _ _ _ _ _ _ _ (p .0)))
-
-same-length-6 : tie.Need-same-length-6
-same-length-6 c = search needs
-
-same-length-7 : tie.Need-same-length-7
-same-length-7 c = search needs
-
-same-length-8 : tie.Need-same-length-8
-same-length-8 c = search needs
 
 same-length-9 : tie.Need-same-length-9
 same-length-9 c = c .before .before .before .k3 .given ∙ c .before .before .before .before .before .before .before .before .before .before .before .before .before .before .before .before .before .before .before .before .before .before .before .k2 .given ∙ c .before .before .before .before .before .before .before .before .before .before .before .before .before .before .before .before .before .before .before .before .before .before .before .before .before .before .before .before .before .before .before .k .given
@@ -50,21 +23,6 @@ same-length-10 c = c .before .v3 .given ∙ c .before .before .before .before .b
 returns-2 : tie.Need-returns-2
 returns-2 c = λ l es s q h o. settling-keeps l _ _ _ s es _ _ _ _ (loaded-settled s _ _ _ _ (c .before .before .before .before .before .before .before .before .before .before .before .before .before .before .before .before .before .before .before .before .before .before .before .before .before .before .before .before .before .before .before .before .load-at .ensures es s h o) l (record { entries = 0; numbers = 0 }) _ _ es _ _ _ (c .before .before .before .before .before .before .before .before .before .before .before .before .before .before .before .before .before .before .before .before .before .before .before .before .settle-lists .ensures l (record { entries = 0; numbers = 0 }) es q (h .knows))) (c .before .before .before .before .before .before .before .before .before .before .before .before .before .before .before .before .before .before .if1 .left) (c .before .before .before .before .before .before .before .before .before .before .before .before .before .before .before .before .if2 .taken) _ _ _ _ (c .before .before .before .before .before .before .before .before .before .before .keep-settled .ensures l es _ (q .shows) h)
 
-same-length-11 : tie.Need-same-length-11
-same-length-11 c = search needs
-
-same-length-12 : tie.Need-same-length-12
-same-length-12 c = search needs
-
-same-length-13 : tie.Need-same-length-13
-same-length-13 c = search needs
-
-same-length-14 : tie.Need-same-length-14
-same-length-14 c = search needs
-
-same-length-15 : tie.Need-same-length-15
-same-length-15 c = search needs
-
 returns-3 : tie.Need-returns-3
 returns-3 c = λ l es s q h o. settling-stays l _ _ _ s es _ _ _ _ (loaded-settled s _ _ _ _ (c .before .before .before .before .before .before .before .before .before .before .before .before .before .before .before .before .load-at .ensures es s h o) l (record { entries = 0; numbers = 0 }) _ _ es _ _ _ (c .before .before .before .before .before .before .before .before .settle-lists .ensures l (record { entries = 0; numbers = 0 }) es q (h .knows))) (c .before .before .if1 .left) (c .if2 .left) _ _ _ _ h
 
@@ -72,24 +30,24 @@ pub finalize-function-spec : {M : Type 1} → statement M
 finalize-function-spec =
     tie.close
     (tie.spec
-    load-at-requires
+    (λ c κs. search needs)
     settle-lists-requires
-    same-length
-    same-length-2
-    same-length-3
-    same-length-4
-    same-length-5
+    (λ c. search needs)
+    (λ c. search needs)
+    (λ c. search needs)
+    (λ c. search needs)
+    (λ c. search needs)
     returns
     keep-settled-requires
-    same-length-6
-    same-length-7
-    same-length-8
+    (λ c. search needs)
+    (λ c. search needs)
+    (λ c. search needs)
     same-length-9
     same-length-10
     returns-2
-    same-length-11
-    same-length-12
-    same-length-13
-    same-length-14
-    same-length-15
+    (λ c. search needs)
+    (λ c. search needs)
+    (λ c. search needs)
+    (λ c. search needs)
+    (λ c. search needs)
     returns-3)

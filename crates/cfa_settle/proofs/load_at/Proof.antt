@@ -6,18 +6,6 @@ use borrow.Author.Needs.{needs}
 use Rattle.cfa_settle.proofs.load_at.Statement.{statement}
 use Rattle.cfa_settle.proofs.load_at.Tie as tie
 
-mul-find : tie.Need-mul-find
-mul-find c = search needs
-
-sub-find : tie.Need-sub-find
-sub-find c = search needs
-
-part-find-start : tie.Need-part-find-start
-part-find-start c = search needs
-
-part-find-end : tie.Need-part-find-end
-part-find-end c = search needs
-
 find-requires : tie.Need-find-requires
 unfolding part
 find-requires c κs = let a = c .before .before .before .before .before .before .args in find-fits (a .n) (a .known .now) (c .before .before .before .before .before .before .pre .0 .holds .kept)
@@ -25,12 +13,6 @@ find-requires c κs = let a = c .before .before .before .before .before .before 
 load-requires : tie.Need-load-requires
 unfolding part
 load-requires c κs = let p = c .before .before .before .before .before .before .before .before .before .pre in ((good-of _ _ _ _ _ (p .0), ready-below _ _ _ _ _ _ (c .before .before .find .ensures) (p .0)), p .1)
-
-same-length : tie.Need-same-length
-same-length c = search needs
-
-same-length-2 : tie.Need-same-length-2
-same-length-2 c = search needs
 
 returns : tie.Need-returns
 unfolding part
@@ -40,12 +22,12 @@ pub load-at-spec : {M : Type 1} → statement M
 load-at-spec =
     tie.close
     (tie.spec
-    mul-find
-    sub-find
-    part-find-start
-    part-find-end
+    (λ c. search needs)
+    (λ c. search needs)
+    (λ c. search needs)
+    (λ c. search needs)
     find-requires
     load-requires
-    same-length
-    same-length-2
+    (λ c. search needs)
+    (λ c. search needs)
     returns)

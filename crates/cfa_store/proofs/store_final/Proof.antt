@@ -6,15 +6,6 @@ use Rattle.cfa_store.proofs.store_final.Tie as tie
 finalize-requires : tie.Need-finalize-requires
 finalize-requires c κs = let p = c .before .before .before .before .before .before .before .before .before .before .before .pre in ((few _ _ _ _ (p .1 .1), within _ _ _ _ (p .1 .1), p .0 .holds .kept), p .1 .0)
 
-same-length : tie.Need-same-length
-same-length c = search needs
-
-same-length-2 : tie.Need-same-length-2
-same-length-2 c = search needs
-
-same-length-3 : tie.Need-same-length-3
-same-length-3 c = search needs
-
 returns : tie.Need-returns
 returns c = λ l es q h. final-fails l _ _ _ es _ _ _ (c .before .before .before .before .before .before .finalize .ensures .1 l (q .sections) (q .checked) es (h .knows)) _ _ _ _ (c .if1 .taken)
 
@@ -24,21 +15,6 @@ last-end-requires c κs = (let p = c .before .before .before .before .before .be
 keep-requires : tie.Need-keep-requires
 keep-requires c κs = (c .before .before .before .before .before .before .before .before .before .before .before .before .before .before .before .before .before .before .before .before .before .before .before .before .before .before .pre .0, (let p = c .before .before .before .before .before .before .before .before .before .before .before .before .before .before .before .before .before .before .before .before .before .before .before .before .before .before .pre in c .before .before .before .before .before .before .before .before .before .before .before .before .before .before .finalize .ensures .1 (p .1 .1 .lent) (p .1 .1 .shows .sections) (p .1 .1 .shows .checked) (p .0 .entries) (p .0 .holds .knows) .fit (c .before .before .before .before .before .before .before .before .if1 .left)))
 
-same-length-4 : tie.Need-same-length-4
-same-length-4 c = search needs
-
-same-length-5 : tie.Need-same-length-5
-same-length-5 c = search needs
-
-same-length-6 : tie.Need-same-length-6
-same-length-6 c = search needs
-
-same-length-7 : tie.Need-same-length-7
-same-length-7 c = search needs
-
-same-length-8 : tie.Need-same-length-8
-same-length-8 c = search needs
-
 returns-2 : tie.Need-returns-2
 returns-2 c = λ l es q h. final-kept l _ _ _ es _ _ _ (c .before .before .before .before .before .before .before .before .before .before .before .before .before .before .before .before .before .before .before .before .before .finalize .ensures .1 l (q .sections) (q .checked) es (h .knows)) _ _ _ _ _ _ (c .before .before .before .before .before .before .before .before .before .before .before .before .before .before .before .if1 .left) (c .before .before .before .before .before .before .before .before .before .before .before .before .last-end .ensures) (c .before .before .before .before .before .before .keep .ensures es h)
 
@@ -47,15 +23,15 @@ store-final-spec =
     tie.close
     (tie.spec
     finalize-requires
-    same-length
-    same-length-2
-    same-length-3
+    (λ c. search needs)
+    (λ c. search needs)
+    (λ c. search needs)
     returns
     last-end-requires
     keep-requires
-    same-length-4
-    same-length-5
-    same-length-6
-    same-length-7
-    same-length-8
+    (λ c. search needs)
+    (λ c. search needs)
+    (λ c. search needs)
+    (λ c. search needs)
+    (λ c. search needs)
     returns-2)

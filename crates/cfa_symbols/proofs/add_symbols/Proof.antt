@@ -31,9 +31,6 @@ same-length-2 c = c .before .before .before .infos .given ∙ c .before .before 
 returns : tie.Need-returns Inv-loop μ-loop
 returns c = adding-stops _ _ _ _ _ _ _ _ _ (c .before .before .before .before .before .before .before .before .before .before .before .loop .inv) (c .before .before .before .before .before .before .before .before .before .before .loop-test .taken) (c .before .before .before .before .before .before .before .before .before .before .before .before .before .before .before .before .pre .0 .whole) _ (c .before .before .before .before .before .before .before .before .before .symbol-at .ensures) _ _ _ _ (c .before .before .before .before .before .before .add-symbol .ensures) (c .if1 .taken)
 
-add-at : tie.Need-add-at Inv-loop μ-loop
-add-at c = search needs
-
 loop-less : tie.Need-loop-less Inv-loop μ-loop
 loop-less c = let h = c .before .before .before .before .before .before .before .before .before .before .loop-test .taken in omega (arith, h)
 
@@ -61,7 +58,7 @@ add-symbols-spec =
     same-length
     same-length-2
     returns
-    add-at
+    (λ c. search needs)
     loop-less
     loop-again
     same-length-3

@@ -3,12 +3,6 @@ use borrow.Author.Needs.{needs}
 use Rattle.cfa_symbols.proofs.end_of.Statement.{statement}
 use Rattle.cfa_symbols.proofs.end_of.Tie as tie
 
-wide-requires : tie.Need-wide-requires
-wide-requires c κs = search needs
-
-add-result : tie.Need-add-result
-add-result c = search needs
-
 returns : tie.Need-returns
 returns c = end-known _ _ _ _ (c .before .if1 .taken) (c .wide .ensures .0)
 
@@ -19,7 +13,7 @@ pub end-of-spec : {M : Type 1} → statement M
 end-of-spec =
     tie.close
     (tie.spec
-    wide-requires
-    add-result
+    (λ c κs. search needs)
+    (λ c. search needs)
     returns
     returns-2)

@@ -6,32 +6,14 @@ use Rattle.cfa_symbols.proofs.first_entries.Tie as tie
 add-symbols-requires : tie.Need-add-symbols-requires
 add-symbols-requires c κs = c .before .before .before .before .before .before .pre
 
-same-length : tie.Need-same-length
-same-length c = search needs
-
-same-length-2 : tie.Need-same-length-2
-same-length-2 c = search needs
-
 returns : tie.Need-returns
 returns c = λ l q. first-fails l _ _ q _ _ _ _ _ _ (c .before .before .before .before .before .before .add-symbols .ensures l q) (c .if1 .taken)
 
 mul-key : tie.Need-mul-key
 mul-key c = search (needs, c .before .before .before .before .before .before .before .before .before .before .before .before .before .before .pre .0 .low)
 
-wide-requires : tie.Need-wide-requires
-wide-requires c κs = search needs
-
-add-key : tie.Need-add-key
-add-key c = search needs
-
 add-entry-requires : tie.Need-add-entry-requires
 add-entry-requires c κs = let d = c .before .before .before .before .before .before .before .before .before .before .before .before .before .before .before .before .before .pre .0 in held (d .lent) _ _ (d .lists) _ _ _ _ _ _ (c .before .before .before .before .before .before .before .before .before .before .add-symbols .ensures (d .lent) (d .lists)) (c .before .before .before .before .if1 .left)
-
-same-length-3 : tie.Need-same-length-3
-same-length-3 c = search needs
-
-same-length-4 : tie.Need-same-length-4
-same-length-4 c = search needs
 
 returns-2 : tie.Need-returns-2
 returns-2 c = λ l q. first-told l _ _ q _ _ _ _ _ _ (c .before .before .before .before .before .before .before .before .before .before .before .before .before .before .before .add-symbols .ensures l q) (c .before .before .before .before .before .before .before .before .before .if1 .left) _ (key-at _ _ _ (c .before .before .before .before .before .before .before .wide .ensures .0)) _ _ _ (c .before .before .before .before .add-entry .ensures)
@@ -41,13 +23,13 @@ first-entries-spec =
     tie.close
     (tie.spec
     add-symbols-requires
-    same-length
-    same-length-2
+    (λ c. search needs)
+    (λ c. search needs)
     returns
     mul-key
-    wide-requires
-    add-key
+    (λ c κs. search needs)
+    (λ c. search needs)
     add-entry-requires
-    same-length-3
-    same-length-4
+    (λ c. search needs)
+    (λ c. search needs)
     returns-2)

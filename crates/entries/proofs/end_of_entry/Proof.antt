@@ -5,18 +5,6 @@ use borrow.Author.Needs.{needs}
 use Rattle.entries.proofs.end_of_entry.Statement.{statement}
 use Rattle.entries.proofs.end_of_entry.Tie as tie
 
-mul-find : tie.Need-mul-find
-mul-find c = search needs
-
-sub-find : tie.Need-sub-find
-sub-find c = search needs
-
-part-find-start : tie.Need-part-find-start
-part-find-start c = search needs
-
-part-find-end : tie.Need-part-find-end
-part-find-end c = search needs
-
 find-requires : tie.Need-find-requires
 unfolding part
 find-requires c κs = let a = c .before .before .args in find-fits (a .n) (a .known .now) (c .before .before .pre)
@@ -45,10 +33,10 @@ pub end-of-entry-spec : {M : Type 1} → statement M
 end-of-entry-spec =
     tie.close
     (tie.spec
-    mul-find
-    sub-find
-    part-find-start
-    part-find-end
+    (λ c. search needs)
+    (λ c. search needs)
+    (λ c. search needs)
+    (λ c. search needs)
     find-requires
     add-result
     mul-result

@@ -29,9 +29,6 @@ mul-is-odd-2 c = omega (arith, c .before .before .before .before .before .pre .h
 shared-slice-read-is-odd : tie.Need-shared-slice-read-is-odd Inv-loop μ-loop
 shared-slice-read-is-odd c = omega (arith, c .before .before .before .before .before .before .pre .holds .kept .few, c .before .before .before .before .before .before .pre .holds .lent, c .before .before .before .before .before .before .pre .holds .kept .size, c .before .loop-test .taken)
 
-is-odd-requires : tie.Need-is-odd-requires Inv-loop μ-loop
-is-odd-requires c κs = search needs
-
 add-i : tie.Need-add-i Inv-loop μ-loop
 add-i c = omega (arith, c .before .before .before .before .before .before .before .before .pre .holds .kept .few, c .before .before .before .before .before .before .before .before .pre .holds .lent, c .before .before .before .before .before .before .before .before .pre .holds .kept .size, c .before .before .before .loop-test .taken)
 
@@ -63,7 +60,7 @@ first-unbounded-function-spec =
     mul-is-odd
     mul-is-odd-2
     shared-slice-read-is-odd
-    is-odd-requires
+    (λ c κs. search needs)
     add-i
     loop-less
     loop-again

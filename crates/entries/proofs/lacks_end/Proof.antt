@@ -3,12 +3,6 @@ use borrow.Author.Needs.{needs}
 use Rattle.entries.proofs.lacks_end.Statement.{statement}
 use Rattle.entries.proofs.lacks_end.Tie as tie
 
-is-odd-requires : tie.Need-is-odd-requires
-is-odd-requires c κs = search needs
-
-is-odd-requires-2 : tie.Need-is-odd-requires-2
-is-odd-requires-2 c κs = search needs
-
 returns : tie.Need-returns
 returns c = let a = c .before .before .before .before .args in lacks-tested (a .flags) (a .end) _ _ (c .before .before .before .is-odd .ensures) (c .before .before .if1 .taken) (c .before .if2 .taken) (c .is-odd2 .ensures)
 
@@ -19,4 +13,4 @@ returns-3 : tie.Need-returns-3
 returns-3 c = let a = c .before .before .args in lacks-unseen (a .flags) (a .end) _ (c .before .is-odd .ensures) (c .if1 .left)
 
 pub lacks-end-spec : {M : Type 1} → statement M
-lacks-end-spec = tie.close (tie.spec is-odd-requires is-odd-requires-2 returns returns-2 returns-3)
+lacks-end-spec = tie.close (tie.spec (λ c κs. search needs) (λ c κs. search needs) returns returns-2 returns-3)

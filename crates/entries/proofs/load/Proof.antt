@@ -4,12 +4,6 @@ use borrow.Author.Needs.{needs}
 use Rattle.entries.proofs.load.Statement.{statement}
 use Rattle.entries.proofs.load.Tie as tie
 
-mul-read-row : tie.Need-mul-read-row
-mul-read-row c = search needs
-
-read-row-requires : tie.Need-read-row-requires
-read-row-requires c κs = search needs
-
 offset-requires : tie.Need-offset-requires
 offset-requires c κs = offset-fits _ (c .before .before .before .before .before .before .args .known .now) _ _ _ (c .before .before .before .before .before .before .pre .0 .1) (c .before .before .before .before .before .before .pre .0 .0)
 
@@ -22,12 +16,6 @@ add-until c = omega (arith, until-fits _ (c .before .before .before .before .bef
 mul-put-keys : tie.Need-mul-put-keys
 mul-put-keys c = omega (arith, until-fits _ (c .before .before .before .before .before .before .before .before .before .args .known .now) _ _ _ (c .before .before .before .before .before .before .before .before .before .pre .0 .1) (c .before .before .before .before .before .before .before .before .before .pre .0 .0) _ (c .before .before .before .read-row .ensures) _ _ (c .before .before .offset .ensures) (c .before .size .ensures))
 
-sub-put-keys : tie.Need-sub-put-keys
-sub-put-keys c = search needs
-
-part-put-keys-start : tie.Need-part-put-keys-start
-part-put-keys-start c = search needs
-
 part-put-keys-end : tie.Need-part-put-keys-end
 part-put-keys-end c = omega (arith, until-fits _ (c .before .before .before .before .before .before .before .before .before .args .known .now) _ _ _ (c .before .before .before .before .before .before .before .before .before .pre .0 .1) (c .before .before .before .before .before .before .before .before .before .pre .0 .0) _ (c .before .before .before .read-row .ensures) _ _ (c .before .before .offset .ensures) (c .before .size .ensures))
 
@@ -37,23 +25,11 @@ put-keys-requires c κs = (limits-are _ (c .before .before .before .before .befo
 mul-put-values : tie.Need-mul-put-values
 mul-put-values c = omega (arith, until-fits _ (c .before .before .before .before .before .before .before .before .before .before .before .before .before .before .args .known .now) _ _ _ (c .before .before .before .before .before .before .before .before .before .before .before .before .before .before .pre .0 .1) (c .before .before .before .before .before .before .before .before .before .before .before .before .before .before .pre .0 .0) _ (c .before .before .before .before .before .before .before .before .read-row .ensures) _ _ (c .before .before .before .before .before .before .before .offset .ensures) (c .before .before .before .before .before .before .size .ensures))
 
-sub-put-values : tie.Need-sub-put-values
-sub-put-values c = search needs
-
-part-put-values-start : tie.Need-part-put-values-start
-part-put-values-start c = search needs
-
 part-put-values-end : tie.Need-part-put-values-end
 part-put-values-end c = omega (arith, until-fits _ (c .before .before .before .before .before .before .before .before .before .before .before .before .before .before .args .known .now) _ _ _ (c .before .before .before .before .before .before .before .before .before .before .before .before .before .before .pre .0 .1) (c .before .before .before .before .before .before .before .before .before .before .before .before .before .before .pre .0 .0) _ (c .before .before .before .before .before .before .before .before .read-row .ensures) _ _ (c .before .before .before .before .before .before .before .offset .ensures) (c .before .before .before .before .before .before .size .ensures))
 
 put-values-requires : tie.Need-put-values-requires
 put-values-requires c κs = (limits-are _ (c .before .before .before .before .before .before .before .before .before .before .before .before .before .before .before .args .known .now) _ _ _ (c .before .before .before .before .before .before .before .before .before .before .before .before .before .before .before .pre .0 .1) (c .before .before .before .before .before .before .before .before .before .before .before .before .before .before .before .pre .0 .0) _ (c .before .before .before .before .before .before .before .before .before .read-row .ensures), lent-long _ (c .before .before .before .before .before .before .before .before .before .before .before .before .before .before .before .args .known .now) _ _ _ (c .before .before .before .before .before .before .before .before .before .before .before .before .before .before .before .pre .0 .1) (c .before .before .before .before .before .before .before .before .before .before .before .before .before .before .before .pre .0 .0) _ (c .before .before .before .before .before .before .before .before .before .read-row .ensures) _ _ (c .before .before .before .before .before .before .before .before .offset .ensures) (c .before .before .before .before .before .before .before .size .ensures), c .before .before .before .before .before .before .before .before .before .before .before .before .before .before .before .pre .1 .1)
-
-same-length : tie.Need-same-length
-same-length c = search needs
-
-same-length-2 : tie.Need-same-length-2
-same-length-2 c = search needs
 
 returns : tie.Need-returns
 returns c = λ es s h e. loaded _ (c .before .before .before .before .before .before .before .before .before .before .before .before .before .before .before .before .before .before .args .known .now) _ _ _ (c .before .before .before .before .before .before .before .before .before .before .before .before .before .before .before .before .before .before .pre .0 .1) _ (c .before .before .before .before .before .before .before .before .before .before .before .before .read-row .ensures) _ _ (c .before .before .before .before .before .before .before .before .before .before .before .offset .ensures) (c .before .before .before .before .before .before .before .before .before .before .size .ensures) es h s e _ _ _ _ (c .before .before .before .before .before .before .before .before .before .before .before .before .before .before .before .before .before .before .pre .1 .0) (c .before .before .before .before .before .before .before .before .before .before .before .before .before .before .before .before .before .before .pre .1 .1) (c .before .before .before .before .before .before .before .put-keys .ensures) (c .before .before .put-values .ensures)
@@ -62,21 +38,21 @@ pub load-spec : {M : Type 1} → statement M
 load-spec =
     tie.close
     (tie.spec
-    mul-read-row
-    read-row-requires
+    (λ c. search needs)
+    (λ c κs. search needs)
     offset-requires
     size-requires
     add-until
     mul-put-keys
-    sub-put-keys
-    part-put-keys-start
+    (λ c. search needs)
+    (λ c. search needs)
     part-put-keys-end
     put-keys-requires
     mul-put-values
-    sub-put-values
-    part-put-values-start
+    (λ c. search needs)
+    (λ c. search needs)
     part-put-values-end
     put-values-requires
-    same-length
-    same-length-2
+    (λ c. search needs)
+    (λ c. search needs)
     returns)

@@ -4,26 +4,11 @@ use borrow.Author.Needs.{needs}
 use Rattle.entry_changes.proofs.mark.Statement.{statement}
 use Rattle.entry_changes.proofs.mark.Tie as tie
 
-mul-f : tie.Need-mul-f
-mul-f c = search needs
-
-slice-read-f : tie.Need-slice-read-f
-slice-read-f c = search needs
-
 returns : tie.Need-returns
 returns c = let a = c .before .before .args in mark-held (a .infos .now) (a .p) (c .if1 .taken)
 
 add-infos : tie.Need-add-infos
 add-infos c = omega (arith, c .before .before .pre .1)
-
-mul-infos : tie.Need-mul-infos
-mul-infos c = search needs
-
-slice-write-infos : tie.Need-slice-write-infos
-slice-write-infos c = search needs
-
-same-length : tie.Need-same-length
-same-length c = search needs
 
 returns-2 : tie.Need-returns-2
 returns-2 c = let a = c .before .before .args in mark-set (a .infos .now) (a .p) (c .if1 .left)
@@ -32,11 +17,11 @@ pub mark-spec : {M : Type 1} → statement M
 mark-spec =
     tie.close
     (tie.spec
-    mul-f
-    slice-read-f
+    (λ c. search needs)
+    (λ c. search needs)
     returns
     add-infos
-    mul-infos
-    slice-write-infos
-    same-length
+    (λ c. search needs)
+    (λ c. search needs)
+    (λ c. search needs)
     returns-2)

@@ -4,29 +4,17 @@ use borrow.Author.Needs.{needs}
 use Rattle.entry_changes.proofs.pack.Statement.{statement}
 use Rattle.entry_changes.proofs.pack.Tie as tie
 
-bit-requires : tie.Need-bit-requires
-bit-requires c κs = search needs
-
-bit-requires-2 : tie.Need-bit-requires-2
-bit-requires-2 c κs = search needs
-
 mul-b : tie.Need-mul-b
 mul-b c = let s = c .before .before .args .s in omega (arith, flag-small _ (s .finalized) (c .before .bit .ensures), flag-small _ (s .load) (c .bit2 .ensures))
 
 add-b : tie.Need-add-b
 add-b c = let s = c .before .before .args .s in omega (arith, flag-small _ (s .finalized) (c .before .bit .ensures), flag-small _ (s .load) (c .bit2 .ensures))
 
-bit-requires-3 : tie.Need-bit-requires-3
-bit-requires-3 c κs = search needs
-
 mul-c : tie.Need-mul-c
 mul-c c = let s = c .before .before .before .args .s in omega (arith, flag-small _ (s .finalized) (c .before .before .bit .ensures), flag-small _ (s .load) (c .before .bit2 .ensures), flag-small _ (s .rfi) (c .bit3 .ensures))
 
 add-c : tie.Need-add-c
 add-c c = let s = c .before .before .before .args .s in omega (arith, flag-small _ (s .finalized) (c .before .before .bit .ensures), flag-small _ (s .load) (c .before .bit2 .ensures), flag-small _ (s .rfi) (c .bit3 .ensures))
-
-bit-requires-4 : tie.Need-bit-requires-4
-bit-requires-4 c κs = search needs
 
 mul-d : tie.Need-mul-d
 mul-d c = let s = c .before .before .before .before .args .s in omega (arith, flag-small _ (s .finalized) (c .before .before .before .bit .ensures), flag-small _ (s .load) (c .before .before .bit2 .ensures), flag-small _ (s .rfi) (c .before .bit3 .ensures), flag-small _ (s .conditional) (c .bit4 .ensures))
@@ -53,14 +41,14 @@ pub pack-spec : {M : Type 1} → statement M
 pack-spec =
     tie.close
     (tie.spec
-    bit-requires
-    bit-requires-2
+    (λ c κs. search needs)
+    (λ c κs. search needs)
     mul-b
     add-b
-    bit-requires-3
+    (λ c κs. search needs)
     mul-c
     add-c
-    bit-requires-4
+    (λ c κs. search needs)
     mul-d
     add-d
     mul-result

@@ -3,24 +3,9 @@ use borrow.Author.Needs.{needs}
 use Rattle.entry_changes.proofs.put_numbers.Statement.{statement}
 use Rattle.entry_changes.proofs.put_numbers.Tie as tie
 
-add-dst : tie.Need-add-dst
-add-dst c = search needs
-
-sub-rest : tie.Need-sub-rest
-sub-rest c = search needs
-
-shift-requires : tie.Need-shift-requires
-shift-requires c κs = search needs
-
-store-requires : tie.Need-store-requires
-store-requires c κs = search needs
-
-same-length : tie.Need-same-length
-same-length c = search needs
-
 returns : tie.Need-returns
 returns c = let a = c .before .before .before .before .before .before .before .before .before .before .before .before .before .args in spliced-in (a .lists .now) (a .t) _ (a .n) (c .before .before .before .before .before .before .before .before .before .before .before .before .before .pre .1) (c .before .before .before .before .before .before .before .before .before .before .before .before .before .pre .2) _ _ _ (c .before .before .before .before .before .before .shift .ensures) (c .before .before .before .before .before .lists .given) (c .before .before .store .ensures)
 
 pub put-numbers-spec : {M : Type 1} → statement M
 put-numbers-spec =
-    tie.close (tie.spec add-dst sub-rest shift-requires store-requires same-length returns)
+    tie.close (tie.spec (λ c. search needs) (λ c. search needs) (λ c κs. search needs) (λ c κs. search needs) (λ c. search needs) returns)

@@ -5,12 +5,6 @@ use borrow.Author.Needs.{needs}
 use Rattle.entry_changes.proofs.replace.Statement.{statement}
 use Rattle.entry_changes.proofs.replace.Tie as tie
 
-span-of-requires : tie.Need-span-of-requires
-span-of-requires c κs = search needs
-
-size-requires : tie.Need-size-requires
-size-requires c κs = search needs
-
 sub-kept : tie.Need-sub-kept
 sub-kept c = let a = c .before .before .before .before .before .before .before .before .before .before .before .args in omega (arith, in-order (a .n) (a .known .now) (a .infos .now) (a .lists .now) ((c .before .before .before .before .before .before .before .before .before .before .before .pre .0 .0) .entries) ((c .before .before .before .before .before .before .before .before .before .before .before .pre .0 .0) .holds) (a .i) (c .before .before .before .before .before .before .before .before .before .before .before .pre .0 .1) _ (c .before .before .span-of .ensures ((c .before .before .before .before .before .before .before .before .before .before .before .pre .0 .0) .entries) ((c .before .before .before .before .before .before .before .before .before .before .before .pre .0 .0) .holds)) .0, in-order (a .n) (a .known .now) (a .infos .now) (a .lists .now) ((c .before .before .before .before .before .before .before .before .before .before .before .pre .0 .0) .entries) ((c .before .before .before .before .before .before .before .before .before .before .before .pre .0 .0) .holds) (a .i) (c .before .before .before .before .before .before .before .before .before .before .before .pre .0 .1) _ (c .before .before .span-of .ensures ((c .before .before .before .before .before .before .before .before .before .before .before .pre .0 .0) .entries) ((c .before .before .before .before .before .before .before .before .before .before .before .pre .0 .0) .holds)) .1, in-order (a .n) (a .known .now) (a .infos .now) (a .lists .now) ((c .before .before .before .before .before .before .before .before .before .before .before .pre .0 .0) .entries) ((c .before .before .before .before .before .before .before .before .before .before .before .pre .0 .0) .holds) (a .i) (c .before .before .before .before .before .before .before .before .before .before .before .pre .0 .1) _ (c .before .before .span-of .ensures ((c .before .before .before .before .before .before .before .before .before .before .before .pre .0 .0) .entries) ((c .before .before .before .before .before .before .before .before .before .before .before .pre .0 .0) .holds)) .2)
 
@@ -19,15 +13,6 @@ add-kept c = let a = c .before .before .before .before .before .before .before .
 
 sub-if1 : tie.Need-sub-if1
 sub-if1 c = let a = c .before .before .before .before .before .before .before .before .before .before .before .before .args in omega (arith, in-order (a .n) (a .known .now) (a .infos .now) (a .lists .now) ((c .before .before .before .before .before .before .before .before .before .before .before .before .pre .0 .0) .entries) ((c .before .before .before .before .before .before .before .before .before .before .before .before .pre .0 .0) .holds) (a .i) (c .before .before .before .before .before .before .before .before .before .before .before .before .pre .0 .1) _ (c .before .before .before .span-of .ensures ((c .before .before .before .before .before .before .before .before .before .before .before .before .pre .0 .0) .entries) ((c .before .before .before .before .before .before .before .before .before .before .before .before .pre .0 .0) .holds)) .0, in-order (a .n) (a .known .now) (a .infos .now) (a .lists .now) ((c .before .before .before .before .before .before .before .before .before .before .before .before .pre .0 .0) .entries) ((c .before .before .before .before .before .before .before .before .before .before .before .before .pre .0 .0) .holds) (a .i) (c .before .before .before .before .before .before .before .before .before .before .before .before .pre .0 .1) _ (c .before .before .before .span-of .ensures ((c .before .before .before .before .before .before .before .before .before .before .before .before .pre .0 .0) .entries) ((c .before .before .before .before .before .before .before .before .before .before .before .before .pre .0 .0) .holds)) .1, in-order (a .n) (a .known .now) (a .infos .now) (a .lists .now) ((c .before .before .before .before .before .before .before .before .before .before .before .before .pre .0 .0) .entries) ((c .before .before .before .before .before .before .before .before .before .before .before .before .pre .0 .0) .holds) (a .i) (c .before .before .before .before .before .before .before .before .before .before .before .before .pre .0 .1) _ (c .before .before .before .span-of .ensures ((c .before .before .before .before .before .before .before .before .before .before .before .before .pre .0 .0) .entries) ((c .before .before .before .before .before .before .before .before .before .before .before .before .pre .0 .0) .holds)) .2)
-
-same-length : tie.Need-same-length
-same-length c = search needs
-
-same-length-2 : tie.Need-same-length-2
-same-length-2 c = search needs
-
-same-length-3 : tie.Need-same-length-3
-same-length-3 c = search needs
 
 returns : tie.Need-returns
 returns c = let a = c .before .before .before .before .before .before .before .before .before .before .before .before .before .args in λ es h. too-long (a .n) (a .known .now) (a .infos .now) (a .lists .now) es h (a .i) (c .before .before .before .before .before .before .before .before .before .before .before .before .before .pre .0 .1) _ (c .before .before .before .before .span-of .ensures es h) (a .end) (a .k .now) (a .v .now) (a .s) (c .before .before .before .before .before .before .before .before .before .before .before .before .before .pre .1) _ (c .before .before .before .size .ensures) (c .if1 .taken) _ _ _
@@ -44,15 +29,6 @@ put-row-requires c κs = let a = c .before .before .before .before .before .befo
 put-end-requires : tie.Need-put-end-requires
 put-end-requires c κs = ((c .before .before .before .before .before .before .before .before .before .before .before .before .before .before .before .before .before .before .before .before .before .before .pre .0 .1), (c .before .before .before .before .before .before .before .before .before .before .before .before .before .before .before .before .before .before .before .before .before .before .pre .0 .0) .holds .kept .few, (c .before .before .before .before .before .before .before .before .before .before .before .before .before .before .before .before .before .before .before .before .before .before .pre .0 .0) .holds .kept .size)
 
-same-length-4 : tie.Need-same-length-4
-same-length-4 c = search needs
-
-same-length-5 : tie.Need-same-length-5
-same-length-5 c = search needs
-
-same-length-6 : tie.Need-same-length-6
-same-length-6 c = search needs
-
 returns-2 : tie.Need-returns-2
 returns-2 c = let a = c .before .before .before .before .before .before .before .before .before .before .before .before .before .before .before .before .before .before .before .before .before .before .before .before .before .args in λ es h. replaced (a .n) (a .known .now) (a .infos .now) (a .lists .now) es h (a .i) (c .before .before .before .before .before .before .before .before .before .before .before .before .before .before .before .before .before .before .before .before .before .before .before .before .before .pre .0 .1) _ (c .before .before .before .before .before .before .before .before .before .before .before .before .before .before .before .before .span-of .ensures es h) (a .end) (a .k .now) (a .v .now) (a .s) (c .before .before .before .before .before .before .before .before .before .before .before .before .before .before .before .before .before .before .before .before .before .before .before .before .before .pre .1) _ (c .before .before .before .before .before .before .before .before .before .before .before .before .before .before .before .size .ensures) (c .before .before .before .before .before .before .before .before .before .before .before .before .if1 .left) _ (c .before .before .before .before .before .before .before .before .before .before .put-numbers .ensures) _ (c .before .before .before .before .before .before .put-row .ensures) (c .before .before .before .before .before .infos .given) _ (c .before .before .put-end .ensures)
 
@@ -60,20 +36,20 @@ pub replace-spec : {M : Type 1} → statement M
 replace-spec =
     tie.close
     (tie.spec
-    span-of-requires
-    size-requires
+    (λ c κs. search needs)
+    (λ c κs. search needs)
     sub-kept
     add-kept
     sub-if1
-    same-length
-    same-length-2
-    same-length-3
+    (λ c. search needs)
+    (λ c. search needs)
+    (λ c. search needs)
     returns
     put-numbers-requires
     mul-put-row
     put-row-requires
     put-end-requires
-    same-length-4
-    same-length-5
-    same-length-6
+    (λ c. search needs)
+    (λ c. search needs)
+    (λ c. search needs)
     returns-2)

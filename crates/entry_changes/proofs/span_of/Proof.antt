@@ -8,12 +8,6 @@ use Rattle.entry_changes.proofs.span_of.Tie as tie
 offset-requires : tie.Need-offset-requires
 offset-requires c κs = let a = c .before .before .before .args in offset-fits (a .n) (a .known .now) (a .infos .now) (a .lists .now) (a .i) (c .before .before .before .pre .1) (c .before .before .before .pre .0)
 
-mul-read-row : tie.Need-mul-read-row
-mul-read-row c = search needs
-
-read-row-requires : tie.Need-read-row-requires
-read-row-requires c κs = search needs
-
 size-requires : tie.Need-size-requires
 size-requires c κs = let a = c .before .before .before .before .before .args in size-fits (a .n) (a .known .now) (a .infos .now) (a .lists .now) (a .i) (c .before .before .before .before .before .pre .1) (c .before .before .before .before .before .pre .0) _ (c .read-row .ensures)
 
@@ -31,8 +25,8 @@ span-of-spec =
     tie.close
     (tie.spec
     offset-requires
-    mul-read-row
-    read-row-requires
+    (λ c. search needs)
+    (λ c κs. search needs)
     size-requires
     add-until
     offset-requires-2

@@ -5,26 +5,8 @@ use borrow.Author.Needs.{needs}
 use Rattle.finalize.proofs.add_last.Statement.{statement}
 use Rattle.finalize.proofs.add_last.Tie as tie
 
-has-last-requires : tie.Need-has-last-requires
-has-last-requires c κs = search needs
-
-has-entry-requires : tie.Need-has-entry-requires
-has-entry-requires c κs = search needs
-
 returns : tie.Need-returns
 returns c = (refl, entry-last _ _ _ _ _ _ _ _ (c .before .before .before .before .before .before .before .before .pre .1 .0) (c .before .before .before .before .before .before .before .before .pre .1 .1) _ (c .before .before .before .has-last .ensures) (c .before .before .if1 .taken) _ (c .before .has-entry .ensures) (c .if2 .taken))
-
-wrapping-add-u64-requires : tie.Need-wrapping-add-u64-requires
-wrapping-add-u64-requires c κs = search needs
-
-set-block-requires : tie.Need-set-block-requires
-set-block-requires c κs = search needs
-
-same-length : tie.Need-same-length
-same-length c = search needs
-
-same-length-2 : tie.Need-same-length-2
-same-length-2 c = search needs
 
 returns-2 : tie.Need-returns-2
 returns-2 c = (c .before .before .before .before .set-block .ensures .pending, block-last _ _ _ _ _ _ _ _ (c .before .before .before .before .before .before .before .before .before .before .before .before .before .before .before .before .pre .1 .0) (c .before .before .before .before .before .before .before .before .before .before .before .before .before .before .before .before .pre .1 .1) _ (c .before .before .before .before .before .before .before .before .before .before .before .has-last .ensures) (c .before .before .before .before .before .before .before .before .before .before .if1 .taken) _ (c .before .before .before .before .before .before .before .before .before .has-entry .ensures) _ _ _ _ (c .before .before .before .before .before .before .before .before .if2 .left) (omega arith) (c .before .before .before .before .before .wrapping-add-u64 .ensures) (c .before .before .before .before .set-block .ensures))
@@ -36,12 +18,12 @@ pub add-last-spec : {M : Type 1} → statement M
 add-last-spec =
     tie.close
     (tie.spec
-    has-last-requires
-    has-entry-requires
+    (λ c κs. search needs)
+    (λ c κs. search needs)
     returns
-    wrapping-add-u64-requires
-    set-block-requires
-    same-length
-    same-length-2
+    (λ c κs. search needs)
+    (λ c κs. search needs)
+    (λ c. search needs)
+    (λ c. search needs)
     returns-2
     returns-3)

@@ -14,23 +14,8 @@ abbrev μ-loop : tie.MeasureT-loop
 loop-holds : tie.Need-loop-holds Inv-loop μ-loop
 loop-holds c = share-first _ _ _ _ (c .before .before .pre .0) (c .before .before .pre .1)
 
-next-same-requires : tie.Need-next-same-requires Inv-loop μ-loop
-next-same-requires c κs = search needs
-
-mul-is-shared : tie.Need-mul-is-shared Inv-loop μ-loop
-mul-is-shared c = search needs
-
-shared-slice-read-is-shared : tie.Need-shared-slice-read-is-shared Inv-loop μ-loop
-shared-slice-read-is-shared c = search needs
-
-is-shared-requires : tie.Need-is-shared-requires Inv-loop μ-loop
-is-shared-requires c κs = search needs
-
 returns : tie.Need-returns Inv-loop μ-loop
 returns c = share-found _ _ _ _ (c .before .before .before .before .before .before .before .before .pre .0) (c .before .before .before .before .before .before .before .before .pre .1) _ _ (c .before .before .before .before .before .loop .inv) (c .before .before .before .before .loop-test .taken) _ (c .before .before .before .next-same .ensures) _ (c .before .is-shared .ensures) (c .if1 .taken)
-
-add-i : tie.Need-add-i Inv-loop μ-loop
-add-i c = search needs
 
 loop-less : tie.Need-loop-less Inv-loop μ-loop
 loop-less c = omega arith
@@ -48,12 +33,12 @@ branches-to-spec =
     Inv-loop
     μ-loop
     loop-holds
-    next-same-requires
-    mul-is-shared
-    shared-slice-read-is-shared
-    is-shared-requires
+    (λ c κs. search needs)
+    (λ c. search needs)
+    (λ c. search needs)
+    (λ c κs. search needs)
     returns
-    add-i
+    (λ c. search needs)
     loop-less
     loop-again
     returns-2)

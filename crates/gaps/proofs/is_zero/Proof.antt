@@ -4,18 +4,6 @@ use borrow.Author.Needs.{needs}
 use Rattle.gaps.proofs.is_zero.Statement.{statement}
 use Rattle.gaps.proofs.is_zero.Tie as tie
 
-wide-requires : tie.Need-wide-requires
-wide-requires c κs = search needs
-
-add-if1 : tie.Need-add-if1
-add-if1 c = search needs
-
-wide-requires-2 : tie.Need-wide-requires-2
-wide-requires-2 c κs = search needs
-
-word-requires : tie.Need-word-requires
-word-requires c κs = search needs
-
 returns : tie.Need-returns
 returns c = zero-by _ _ _ _ _ (let p = c .before .before .before .wide .ensures .0 in let q = c .before .before .wide2 .ensures .0 in let t = c .before .if1 .taken in omega (arith, p, q, t)) (c .word .ensures)
 
@@ -24,4 +12,4 @@ returns-2 c = zero-past _ _ _ _ (let p = c .before .before .wide .ensures .0 in 
 
 pub is-zero-spec : {M : Type 1} → statement M
 is-zero-spec =
-    tie.close (tie.spec wide-requires add-if1 wide-requires-2 word-requires returns returns-2)
+    tie.close (tie.spec (λ c κs. search needs) (λ c. search needs) (λ c κs. search needs) (λ c κs. search needs) returns returns-2)

@@ -6,23 +6,11 @@ use borrow.Author.Needs.{needs}
 use Rattle.gaps.proofs.new_between.Statement.{statement}
 use Rattle.gaps.proofs.new_between.Tie as tie
 
-cast-until : tie.Need-cast-until
-cast-until c = search needs
-
-cast-skip-alignment : tie.Need-cast-skip-alignment
-cast-skip-alignment c = search needs
-
 skip-alignment-requires : tie.Need-skip-alignment-requires
 skip-alignment-requires c κs = c .before .before .pre .0
 
 mul-result : tie.Need-mul-result
 mul-result c = let h = c .before .before .before .before .before .pre .1 .0 in omega (arith, h)
-
-wide-requires : tie.Need-wide-requires
-wide-requires c κs = search needs
-
-add-result : tie.Need-add-result
-add-result c = search needs
 
 returns : tie.Need-returns
 returns c = λ l cap h. between-some _ _ _ l cap h _ _ _ (c .before .before .before .skip-alignment .ensures l cap h) (c .wide .result) (c .before .before .if1 .taken) (c .before .before .before .before .before .before .pre .1 .1) (c .wide .ensures .0)
@@ -34,11 +22,11 @@ pub new-between-spec : {M : Type 1} → statement M
 new-between-spec =
     tie.close
     (tie.spec
-    cast-until
-    cast-skip-alignment
+    (λ c. search needs)
+    (λ c. search needs)
     skip-alignment-requires
     mul-result
-    wide-requires
-    add-result
+    (λ c κs. search needs)
+    (λ c. search needs)
     returns
     returns-2)

@@ -32,14 +32,8 @@ loop-less c = over-less _ _ _ _ _ _ (c .before .before .before .loop .inv) _ (c 
 loop-again : tie.Need-loop-again Inv-loop μ-loop
 loop-again c = over-on _ _ _ _ _ _ (c .before .before .before .loop .inv) _ (c .before .before .is-zero .ensures) _ (c .before .if1 .taken) (c .skip-range2 .ensures)
 
-wide-requires : tie.Need-wide-requires Inv-loop μ-loop
-wide-requires c κs = search needs
-
 add-if2 : tie.Need-add-if2 Inv-loop μ-loop
 add-if2 c = let p = c .wide .ensures .1 in omega (arith, p)
-
-wide-requires-2 : tie.Need-wide-requires-2 Inv-loop μ-loop
-wide-requires-2 c κs = search needs
 
 returns : tie.Need-returns Inv-loop μ-loop
 returns c = λ l cap h. over-inside _ _ _ _ _ _ (c .before .before .before .before .before .loop .inv) _ (c .before .before .before .before .is-zero .ensures) (c .before .before .before .if1 .left) l cap h (let p = c .before .before .wide .ensures .0 in let q = c .before .wide2 .ensures .0 in let t = c .if2 .taken in omega (arith, p, q, t))
@@ -60,8 +54,8 @@ skip-alignment-spec =
     skip-range-requires-2
     loop-less
     loop-again
-    wide-requires
+    (λ c κs. search needs)
     add-if2
-    wide-requires-2
+    (λ c κs. search needs)
     returns
     returns-2)

@@ -13,24 +13,9 @@ returns-2 c = taken-many _ _ (c .before .before .before .before .pre) (c .before
 fill-known-requires : tie.Need-fill-known-requires
 fill-known-requires c κs = fill-needs (c .before .before .before .before .before .args .rows .now) (c .before .before .before .before .before .args .known .now) (c .before .before .before .before .before .pre) (c .before .before .if1 .left) (c .before .if2 .left)
 
-mul-ascends : tie.Need-mul-ascends
-mul-ascends c = search needs
-
-sub-ascends : tie.Need-sub-ascends
-sub-ascends c = search needs
-
-part-ascends-start : tie.Need-part-ascends-start
-part-ascends-start c = search needs
-
-part-ascends-end : tie.Need-part-ascends-end
-part-ascends-end c = search needs
-
 ascends-requires : tie.Need-ascends-requires
 unfolding part
 ascends-requires c κs = ascends-needs (c .before .before .before .before .before .before .before .before .before .before .args .rows .now) (c .before .before .before .before .before .before .before .before .before .before .args .known .now) (c .before .before .before .before .before .before .before .before .before .before .pre) (c .before .before .before .before .before .before .before .if1 .left) (c .before .before .before .before .before .before .if2 .left) _ (c .before .before .before .before .fill-known .ensures)
-
-same-length : tie.Need-same-length
-same-length c = search needs
 
 returns-3 : tie.Need-returns-3
 unfolding part
@@ -43,10 +28,10 @@ take-known-spec =
     returns
     returns-2
     fill-known-requires
-    mul-ascends
-    sub-ascends
-    part-ascends-start
-    part-ascends-end
+    (λ c. search needs)
+    (λ c. search needs)
+    (λ c. search needs)
+    (λ c. search needs)
     ascends-requires
-    same-length
+    (λ c. search needs)
     returns-3)

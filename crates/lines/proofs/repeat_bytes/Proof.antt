@@ -11,9 +11,6 @@ Inv-loop bytes₀ line n count end width i₀ bytes i = n ≤ i
 abbrev μ-loop : tie.MeasureT-loop
 μ-loop bytes₀ line n count end width i₀ bytes i = end - i
 
-end-of-requires : tie.Need-end-of-requires Inv-loop μ-loop
-end-of-requires c κs = search needs
-
 returns : tie.Need-returns Inv-loop μ-loop
 returns c = search needs
 
@@ -50,7 +47,7 @@ repeat-bytes-spec =
     (tie.spec
     Inv-loop
     μ-loop
-    end-of-requires
+    (λ c κs. search needs)
     returns
     returns-2
     loop-holds

@@ -11,9 +11,6 @@ Inv-loop numbers₀ line n count end width i₀ numbers i = n ≤ i
 abbrev μ-loop : tie.MeasureT-loop
 μ-loop numbers₀ line n count end width i₀ numbers i = end - i
 
-end-of-requires : tie.Need-end-of-requires Inv-loop μ-loop
-end-of-requires c κs = search needs
-
 returns : tie.Need-returns Inv-loop μ-loop
 returns c = search needs
 
@@ -56,7 +53,7 @@ repeat-numbers-spec =
     (tie.spec
     Inv-loop
     μ-loop
-    end-of-requires
+    (λ c κs. search needs)
     returns
     returns-2
     loop-holds

@@ -3,22 +3,10 @@ use borrow.Author.Needs.{needs}
 use Rattle.mapping.proofs.map_lists.Statement.{statement}
 use Rattle.mapping.proofs.map_lists.Tie as tie
 
-detect-functions-requires : tie.Need-detect-functions-requires
-detect-functions-requires c κs = search needs
-
 print-answer-requires : tie.Need-print-answer-requires
 print-answer-requires c κs =
     let t = c .before .before .before .before .before .before .before .detect-functions .ensures .0 in
     (told-showing _ _ _ _ _ _ _ t, told-room _ _ _ _ _ _ _ t (c .before .before .before .before .before .before .rows .given) (c .before .before .before .before .lists .given) (c .before .before .before .before .before .before .before .before .before .before .before .before .before .before .before .before .before .before .before .before .pre))
-
-same-length : tie.Need-same-length
-same-length c = search needs
-
-same-length-2 : tie.Need-same-length-2
-same-length-2 c = search needs
-
-same-length-3 : tie.Need-same-length-3
-same-length-3 c = search needs
 
 returns : tie.Need-returns
 returns c = c .before .before .print-answer .ensures _ (told-shows _ _ _ _ _ _ _ (c .before .before .before .before .before .before .before .before .before .before .detect-functions .ensures .0))
@@ -27,9 +15,9 @@ pub map-lists-spec : {M : Type 1} → statement M
 map-lists-spec =
     tie.close
     (tie.spec
-    detect-functions-requires
+    (λ c κs. search needs)
     print-answer-requires
-    same-length
-    same-length-2
-    same-length-3
+    (λ c. search needs)
+    (λ c. search needs)
+    (λ c. search needs)
     returns)

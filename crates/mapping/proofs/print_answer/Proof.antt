@@ -7,17 +7,11 @@ use Rattle.mapping.proofs.print_answer.Tie as tie
 put-map-requires : tie.Need-put-map-requires
 put-map-requires c κs = (telling _ _ _ _ (c .before .before .before .before .before .pre .0) (c .before .if1 .taken), c .before .before .before .before .before .pre .1)
 
-same-length : tie.Need-same-length
-same-length c = search needs
-
 returns : tie.Need-returns
 returns c = map-shown _ _ _ _ _ _ _ (c .before .before .before .before .if1 .taken) (c .before .before .put-map .ensures)
 
 put-refusal-requires : tie.Need-put-refusal-requires
 put-refusal-requires c κs = (number-low _ _ _ _ (c .before .before .before .before .before .pre .0) (c .before .if1 .left), omega (arith, c .before .before .before .before .before .pre .1))
-
-same-length-2 : tie.Need-same-length-2
-same-length-2 c = search needs
 
 returns-2 : tie.Need-returns-2
 returns-2 c = refusal-shown _ _ _ _ _ _ _ (c .before .before .before .before .if1 .left) (c .before .before .put-refusal .ensures)
@@ -27,8 +21,8 @@ print-answer-spec =
     tie.close
     (tie.spec
     put-map-requires
-    same-length
+    (λ c. search needs)
     returns
     put-refusal-requires
-    same-length-2
+    (λ c. search needs)
     returns-2)

@@ -6,9 +6,6 @@ use Rattle.marks.proofs.is_block.Statement.{statement}
 use Rattle.marks.proofs.is_block.Tie as tie
 use Rattle.std.proofs.num.wrapping_sub_u64.Reads as wrapping-sub-u64-reads
 
-wrapping-sub-u64-requires : tie.Need-wrapping-sub-u64-requires
-wrapping-sub-u64-requires c κs = search needs
-
 returns : tie.Need-returns
 returns c =
     let a = c .before .before .args in
@@ -19,4 +16,4 @@ returns-2 : tie.Need-returns-2
 returns-2 c = (search (needs, unaligned-block), λ h. absurd (false≢true h))
 
 pub is-block-spec : {M : Type 1} → statement M
-is-block-spec = tie.close (tie.spec wrapping-sub-u64-requires returns returns-2)
+is-block-spec = tie.close (tie.spec (λ c κs. search needs) returns returns-2)

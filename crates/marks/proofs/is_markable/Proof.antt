@@ -3,9 +3,6 @@ use borrow.Author.Needs.{needs}
 use Rattle.marks.proofs.is_markable.Statement.{statement}
 use Rattle.marks.proofs.is_markable.Tie as tie
 
-is-table-requires : tie.Need-is-table-requires
-is-table-requires c κs = search needs
-
 returns : tie.Need-returns
 returns c = search (needs, by-table)
 
@@ -19,4 +16,4 @@ returns-4 : tie.Need-returns-4
 returns-4 c = search (needs, passes-starts)
 
 pub is-markable-spec : {M : Type 1} → statement M
-is-markable-spec = tie.close (tie.spec is-table-requires returns returns-2 returns-3 returns-4)
+is-markable-spec = tie.close (tie.spec (λ c κs. search needs) returns returns-2 returns-3 returns-4)

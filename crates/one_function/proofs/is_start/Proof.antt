@@ -3,15 +3,6 @@ use borrow.Author.Needs.{needs}
 use Rattle.one_function.proofs.is_start.Statement.{statement}
 use Rattle.one_function.proofs.is_start.Tie as tie
 
-code-section-requires : tie.Need-code-section-requires
-code-section-requires c κs = search needs
-
-cast-x : tie.Need-cast-x
-cast-x c = search needs
-
-is-code-address-requires : tie.Need-is-code-address-requires
-is-code-address-requires c κs = search needs
-
 returns : tie.Need-returns
 returns c = start-in _ _ _ (c .before .before .before .code-section .ensures) _ (c .before .if1 .taken) (c .is-code-address .ensures)
 
@@ -20,4 +11,4 @@ returns-2 c = start-out _ _ _ (c .before .before .code-section .ensures) (c .if1
 
 pub is-start-spec : {M : Type 1} → statement M
 is-start-spec =
-    tie.close (tie.spec code-section-requires cast-x is-code-address-requires returns returns-2)
+    tie.close (tie.spec (λ c κs. search needs) (λ c. search needs) (λ c κs. search needs) returns returns-2)

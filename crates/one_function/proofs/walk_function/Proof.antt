@@ -8,29 +8,14 @@ use borrow.Author.Needs.{needs}
 use Rattle.one_function.proofs.walk_function.Statement.{statement}
 use Rattle.one_function.proofs.walk_function.Tie as tie
 
-slice-aggregate-check-walk : tie.Need-slice-aggregate-check-walk
-slice-aggregate-check-walk c = search needs
-
-check-walk-requires : tie.Need-check-walk-requires
-check-walk-requires c κs = search needs
-
-no-function-requires : tie.Need-no-function-requires
-no-function-requires c κs = search needs
-
 returns : tie.Need-returns
 returns c = told-refused (let g = c .before .before .before .before .before .before .before .before .before .before .before .before .before .before .args in lent (g .sections .now) (g .bytes .now) (g .outcomes .now) (g .functions .now) (g .objects .now) (g .skips .now) (g .entry .now)) _ _ _ _ _ (c .before .before .before .check-walk .ensures) _ _ (c .before .if1 .taken) (c .no-function .ensures)
 
 code-section-requires : tie.Need-code-section-requires
 code-section-requires c κs = few-checked (let g = c .before .before .before .before .before .before .before .before .before .before .before .before .before .args in lent (g .sections .now) (g .bytes .now) (g .outcomes .now) (g .functions .now) (g .objects .now) (g .skips .now) (g .entry .now)) _ _ _ _ _ (c .before .before .check-walk .ensures) (c .if1 .left)
 
-slice-aggregate-walked : tie.Need-slice-aggregate-walked
-slice-aggregate-walked c = search needs
-
 walked-requires : tie.Need-walked-requires
 walked-requires c κs = lends-all (let g = c .before .before .before .before .before .before .before .before .before .before .before .before .before .before .before .before .args in lent (g .sections .now) (g .bytes .now) (g .outcomes .now) (g .functions .now) (g .objects .now) (g .skips .now) (g .entry .now)) _ _ _ _ _ (c .before .before .before .before .before .check-walk .ensures) (c .before .before .before .if1 .left) _ (c .before .before .code-section .ensures (let g = c .before .before .before .before .before .before .before .before .before .before .before .before .before .before .before .before .args in lent (g .sections .now) (g .bytes .now) (g .outcomes .now) (g .functions .now) (g .objects .now) (g .skips .now) (g .entry .now)) refl)
-
-same-length : tie.Need-same-length
-same-length c = search needs
 
 returns-2 : tie.Need-returns-2
 returns-2 c = told-walked (let g = c .before .before .before .before .before .before .before .before .before .before .before .before .before .before .before .before .before .before .before .args in lent (g .sections .now) (g .bytes .now) (g .outcomes .now) (g .functions .now) (g .objects .now) (g .skips .now) (g .entry .now)) _ _ _ _ _ (c .before .before .before .before .before .before .before .before .check-walk .ensures) (c .before .before .before .before .before .before .if1 .left) _ (c .before .before .before .before .before .code-section .ensures (let g = c .before .before .before .before .before .before .before .before .before .before .before .before .before .before .before .before .before .before .before .args in lent (g .sections .now) (g .bytes .now) (g .outcomes .now) (g .functions .now) (g .objects .now) (g .skips .now) (g .entry .now)) refl) _ _ _ (c .before .before .walked .ensures _ (lends (let g = c .before .before .before .before .before .before .before .before .before .before .before .before .before .before .before .before .before .before .before .args in lent (g .sections .now) (g .bytes .now) (g .outcomes .now) (g .functions .now) (g .objects .now) (g .skips .now) (g .entry .now)) _ _ _ _ _ (c .before .before .before .before .before .before .before .before .check-walk .ensures) (c .before .before .before .before .before .before .if1 .left) _ (c .before .before .before .before .before .code-section .ensures (let g = c .before .before .before .before .before .before .before .before .before .before .before .before .before .before .before .before .before .before .before .args in lent (g .sections .now) (g .bytes .now) (g .outcomes .now) (g .functions .now) (g .objects .now) (g .skips .now) (g .entry .now)) refl)) (lends-outcomes (let g = c .before .before .before .before .before .before .before .before .before .before .before .before .before .before .before .before .before .before .before .args in lent (g .sections .now) (g .bytes .now) (g .outcomes .now) (g .functions .now) (g .objects .now) (g .skips .now) (g .entry .now)) _ _ _ _ _ (c .before .before .before .before .before .before .before .before .check-walk .ensures) (c .before .before .before .before .before .before .if1 .left) _ (c .before .before .before .before .before .code-section .ensures (let g = c .before .before .before .before .before .before .before .before .before .before .before .before .before .before .before .before .before .before .before .args in lent (g .sections .now) (g .bytes .now) (g .outcomes .now) (g .functions .now) (g .objects .now) (g .skips .now) (g .entry .now)) refl)))
@@ -39,12 +24,12 @@ pub walk-function-spec : {M : Type 1} → statement M
 walk-function-spec =
     tie.close
     (tie.spec
-    slice-aggregate-check-walk
-    check-walk-requires
-    no-function-requires
+    (λ c. search needs)
+    (λ c κs. search needs)
+    (λ c κs. search needs)
     returns
     code-section-requires
-    slice-aggregate-walked
+    (λ c. search needs)
     walked-requires
-    same-length
+    (λ c. search needs)
     returns-2)

@@ -4,9 +4,6 @@ use borrow.Author.Needs.{needs}
 use Rattle.printing.proofs.first_size.Statement.{statement}
 use Rattle.printing.proofs.first_size.Tie as tie
 
-read-row-requires : tie.Need-read-row-requires
-read-row-requires c κs = search needs
-
 size-requires : tie.Need-size-requires
 size-requires c κs = rw (c .read-row .ensures) (c .before .before .pre .1)
 
@@ -14,4 +11,4 @@ returns : tie.Need-returns
 returns c = c .size .ensures ∙ ap numbers-long (c .before .read-row .ensures)
 
 pub first-size-spec : {M : Type 1} → statement M
-first-size-spec = tie.close (tie.spec read-row-requires size-requires returns)
+first-size-spec = tie.close (tie.spec (λ c κs. search needs) size-requires returns)

@@ -27,21 +27,6 @@ sub-put-entry c = let h = row-within _ _ _ _ _ _ _ _ _ (c .before .before .loop 
 part-put-entry-start : tie.Need-part-put-entry-start Inv-loop μ-loop
 part-put-entry-start c = let h = row-within _ _ _ _ _ _ _ _ _ (c .before .before .loop .inv) (c .before .loop-test .taken) in omega (arith, h)
 
-part-put-entry-end : tie.Need-part-put-entry-end Inv-loop μ-loop
-part-put-entry-end c = search needs
-
-mul-put-entry-2 : tie.Need-mul-put-entry-2 Inv-loop μ-loop
-mul-put-entry-2 c = search needs
-
-sub-put-entry-2 : tie.Need-sub-put-entry-2 Inv-loop μ-loop
-sub-put-entry-2 c = search needs
-
-part-put-entry-start-2 : tie.Need-part-put-entry-start-2 Inv-loop μ-loop
-part-put-entry-start-2 c = search needs
-
-part-put-entry-end-2 : tie.Need-part-put-entry-end-2 Inv-loop μ-loop
-part-put-entry-end-2 c = search needs
-
 put-entry-requires : tie.Need-put-entry-requires Inv-loop μ-loop
 put-entry-requires c κs = rw (tail-is (c .before .before .before .before .loop .i * 10) (c .before .before .before .before .before .before .before .before .args .rows .now), tail-is (c .before .before .before .before .loop .q) (c .before .before .before .before .before .before .before .before .args .lists .now)) (first-there _ _ _ _ _ _ _ _ _ (c .before .before .before .before .loop .inv) (c .before .before .before .loop-test .taken), first-room _ _ _ _ _ _ _ _ _ (c .before .before .before .before .loop .inv) (c .before .before .before .loop-test .taken))
 
@@ -54,20 +39,11 @@ sub-first-size c = let h = row-within _ _ _ _ _ _ _ _ _ (c .before .before .befo
 part-first-size-start : tie.Need-part-first-size-start Inv-loop μ-loop
 part-first-size-start c = let h = row-within _ _ _ _ _ _ _ _ _ (c .before .before .before .before .before .before .before .loop .inv) (c .before .before .before .before .before .before .loop-test .taken) in omega (arith, h)
 
-part-first-size-end : tie.Need-part-first-size-end Inv-loop μ-loop
-part-first-size-end c = search needs
-
-sub-first-size-2 : tie.Need-sub-first-size-2 Inv-loop μ-loop
-sub-first-size-2 c = search needs
-
 first-size-requires : tie.Need-first-size-requires Inv-loop μ-loop
 first-size-requires c κs = rw (tail-is (c .before .before .before .before .before .before .before .before .loop .i * 10) (c .before .before .before .before .before .before .before .before .before .before .before .before .args .rows .now)) (size-there _ _ _ _ _ _ _ _ _ (c .before .before .before .before .before .before .before .before .loop .inv) (c .before .before .before .before .before .before .before .loop-test .taken))
 
 add-q : tie.Need-add-q Inv-loop μ-loop
 add-q c = let e = rw (tail-is (c .before .before .before .before .before .before .before .before .before .loop .i * 10) (c .before .before .before .before .before .before .before .before .before .before .before .before .before .args .rows .now)) at (c .first-size .ensures) in let h = size-there _ _ _ _ _ _ _ _ _ (c .before .before .before .before .before .before .before .before .before .loop .inv) (c .before .before .before .before .before .before .before .before .loop-test .taken) in omega (arith, e, h .1, c .before .before .before .before .before .before .before .before .before .loop .inv .low)
-
-add-i : tie.Need-add-i Inv-loop μ-loop
-add-i c = search needs
 
 loop-less : tie.Need-loop-less Inv-loop μ-loop
 loop-less c = search needs
@@ -92,20 +68,20 @@ put-entries-spec =
     mul-put-entry
     sub-put-entry
     part-put-entry-start
-    part-put-entry-end
-    mul-put-entry-2
-    sub-put-entry-2
-    part-put-entry-start-2
-    part-put-entry-end-2
+    (λ c. search needs)
+    (λ c. search needs)
+    (λ c. search needs)
+    (λ c. search needs)
+    (λ c. search needs)
     put-entry-requires
     mul-first-size
     sub-first-size
     part-first-size-start
-    part-first-size-end
-    sub-first-size-2
+    (λ c. search needs)
+    (λ c. search needs)
     first-size-requires
     add-q
-    add-i
+    (λ c. search needs)
     loop-less
     loop-again
     same-length

@@ -4,24 +4,6 @@ use borrow.Author.Needs.{needs}
 use Rattle.printing.proofs.put_entry.Statement.{statement}
 use Rattle.printing.proofs.put_entry.Tie as tie
 
-shared-slice-read-is-function : tie.Need-shared-slice-read-is-function
-shared-slice-read-is-function c = search needs
-
-shared-slice-read-is-function-2 : tie.Need-shared-slice-read-is-function-2
-shared-slice-read-is-function-2 c = search needs
-
-is-function-requires : tie.Need-is-function-requires
-is-function-requires c κs = search needs
-
-read-row-requires : tie.Need-read-row-requires
-read-row-requires c κs = search needs
-
-shared-slice-read-put-function-line : tie.Need-shared-slice-read-put-function-line
-shared-slice-read-put-function-line c = search needs
-
-shared-slice-read-put-function-line-2 : tie.Need-shared-slice-read-put-function-line-2
-shared-slice-read-put-function-line-2 c = search needs
-
 put-function-line-requires : tie.Need-put-function-line-requires
 put-function-line-requires c κs = room-first _ _ _ _ (room-first _ _ _ _ (rw (of-a-row (c .before .before .before .before .before .before .before .before .before .before .before .args .rows .now) (c .before .before .before .before .before .before .before .before .before .before .before .args .lists .now) _ (c .before .before .before .before .before .is-function .ensures) (c .before .before .before .before .if1 .taken) (c .before .before .before .read-row .result) (c .before .before .before .read-row .ensures)) at (c .before .before .before .before .before .before .before .before .before .before .before .pre .1)))
 
@@ -31,20 +13,11 @@ put-flow-requires c κs = (rw (c .before .before .before .before .before .before
 put-others-requires : tie.Need-put-others-requires
 put-others-requires c κs = (rw (c .before .before .before .before .before .before .before .before .before .before .before .read-row .ensures) (c .before .before .before .before .before .before .before .before .before .before .before .before .before .before .before .before .before .before .before .pre .0 .1), room-next (rw (of-a-row (c .before .before .before .before .before .before .before .before .before .before .before .before .before .before .before .before .before .before .before .args .rows .now) (c .before .before .before .before .before .before .before .before .before .before .before .before .before .before .before .before .before .before .before .args .lists .now) _ (c .before .before .before .before .before .before .before .before .before .before .before .before .before .is-function .ensures) (c .before .before .before .before .before .before .before .before .before .before .before .before .if1 .taken) (c .before .before .before .before .before .before .before .before .before .before .before .read-row .result) (c .before .before .before .before .before .before .before .before .before .before .before .read-row .ensures)) at (c .before .before .before .before .before .before .before .before .before .before .before .before .before .before .before .before .before .before .before .pre .1)) (printed-then (c .before .before .before .before .before .before .before .put-function-line .ensures) (c .before .before .before .put-flow .ensures)))
 
-same-length : tie.Need-same-length
-same-length c = search needs
-
 returns : tie.Need-returns
 returns c = rw (of-a-row (c .before .before .before .before .before .before .before .before .before .before .before .before .before .before .before .before .before .before .before .before .before .before .args .rows .now) (c .before .before .before .before .before .before .before .before .before .before .before .before .before .before .before .before .before .before .before .before .before .before .args .lists .now) _ (c .before .before .before .before .before .before .before .before .before .before .before .before .before .before .before .before .is-function .ensures) (c .before .before .before .before .before .before .before .before .before .before .before .before .before .before .before .if1 .taken) (c .before .before .before .before .before .before .before .before .before .before .before .before .before .before .read-row .result) (c .before .before .before .before .before .before .before .before .before .before .before .before .before .before .read-row .ensures)) (printed-then (printed-then (c .before .before .before .before .before .before .before .before .before .before .put-function-line .ensures) (c .before .before .before .before .before .before .put-flow .ensures)) (c .before .before .put-others .ensures))
 
-shared-slice-read-put-line : tie.Need-shared-slice-read-put-line
-shared-slice-read-put-line c = search needs
-
 put-line-requires : tie.Need-put-line-requires
 put-line-requires c κs = rw (set-aside (c .before .before .before .before .before .before .before .before .before .args .rows .now) (c .before .before .before .before .before .before .before .before .before .args .lists .now) _ (c .before .before .before .is-function .ensures) (c .before .before .if1 .left)) at (c .before .before .before .before .before .before .before .before .before .pre .1)
-
-same-length-2 : tie.Need-same-length-2
-same-length-2 c = search needs
 
 returns-2 : tie.Need-returns-2
 returns-2 c = rw (set-aside (c .before .before .before .before .before .before .before .before .before .before .before .before .args .rows .now) (c .before .before .before .before .before .before .before .before .before .before .before .before .args .lists .now) _ (c .before .before .before .before .before .before .is-function .ensures) (c .before .before .before .before .before .if1 .left)) (c .before .before .put-line .ensures)
@@ -53,18 +26,18 @@ pub put-entry-spec : {M : Type 1} → statement M
 put-entry-spec =
     tie.close
     (tie.spec
-    shared-slice-read-is-function
-    shared-slice-read-is-function-2
-    is-function-requires
-    read-row-requires
-    shared-slice-read-put-function-line
-    shared-slice-read-put-function-line-2
+    (λ c. search needs)
+    (λ c. search needs)
+    (λ c κs. search needs)
+    (λ c κs. search needs)
+    (λ c. search needs)
+    (λ c. search needs)
     put-function-line-requires
     put-flow-requires
     put-others-requires
-    same-length
+    (λ c. search needs)
     returns
-    shared-slice-read-put-line
+    (λ c. search needs)
     put-line-requires
-    same-length-2
+    (λ c. search needs)
     returns-2)

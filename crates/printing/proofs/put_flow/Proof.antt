@@ -4,24 +4,15 @@ use borrow.Author.Needs.{needs}
 use Rattle.printing.proofs.put_flow.Statement.{statement}
 use Rattle.printing.proofs.put_flow.Tie as tie
 
-add-c : tie.Need-add-c
-add-c c = search needs
-
-add-d : tie.Need-add-d
-add-d c = search needs
-
 put-lines-requires : tie.Need-put-lines-requires
 put-lines-requires c κs = ((omega (arith, c .before .before .before .before .pre .0), omega (arith, c .before .before .before .before .pre .0)), room-first _ _ _ _ (c .before .before .before .before .pre .1))
 
 put-lines-requires-2 : tie.Need-put-lines-requires-2
 put-lines-requires-2 c κs = ((omega (arith, c .before .before .before .before .before .before .before .before .pre .0), omega (arith, c .before .before .before .before .before .before .before .before .pre .0)), room-next (c .before .before .before .before .before .before .before .before .pre .1) (c .before .before .before .put-lines .ensures))
 
-same-length : tie.Need-same-length
-same-length c = search needs
-
 returns : tie.Need-returns
 returns c = printed-then (c .before .before .before .before .before .before .put-lines .ensures) (c .before .before .put-lines2 .ensures)
 
 pub put-flow-spec : {M : Type 1} → statement M
 put-flow-spec =
-    tie.close (tie.spec add-c add-d put-lines-requires put-lines-requires-2 same-length returns)
+    tie.close (tie.spec (λ c. search needs) (λ c. search needs) put-lines-requires put-lines-requires-2 (λ c. search needs) returns)

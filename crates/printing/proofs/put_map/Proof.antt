@@ -10,11 +10,8 @@ put-answer-requires c κs = (omega arith, answer-room _ _ (omega (arith, c .befo
 put-entries-requires : tie.Need-put-entries-requires
 put-entries-requires c κs = let t = c .before .before .before .before .before .before .before .before .pre .0 in (there _ _ _ (t .entries) (t .tells), map-room _ _ _ _ (c .before .before .before .before .before .before .before .before .pre .1) _ _ (c .before .before .before .put-answer .ensures) t)
 
-same-length : tie.Need-same-length
-same-length c = search needs
-
 returns : tie.Need-returns
 returns c = map-begun _ _ _ _ (c .before .before .before .before .before .before .before .before .before .before .before .pre .1) _ _ (c .before .before .before .before .before .before .put-answer .ensures) _ _ (c .before .before .put-entries .ensures)
 
 pub put-map-spec : {M : Type 1} → statement M
-put-map-spec = tie.close (tie.spec put-answer-requires put-entries-requires same-length returns)
+put-map-spec = tie.close (tie.spec put-answer-requires put-entries-requires (λ c. search needs) returns)

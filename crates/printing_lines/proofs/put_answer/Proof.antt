@@ -12,21 +12,9 @@ put-byte-requires-2 : tie.Need-put-byte-requires-2
 unfolding line-R
 put-byte-requires-2 c κs = search needs
 
-cast-put-byte : tie.Need-cast-put-byte
-cast-put-byte c = search needs
-
-add-put-byte : tie.Need-add-put-byte
-add-put-byte c = search needs
-
 put-byte-requires-3 : tie.Need-put-byte-requires-3
 unfolding line-R
 put-byte-requires-3 c κs = search needs
-
-cast-put-byte-2 : tie.Need-cast-put-byte-2
-cast-put-byte-2 c = search needs
-
-add-put-byte-2 : tie.Need-add-put-byte-2
-add-put-byte-2 c = search needs
 
 put-byte-requires-4 : tie.Need-put-byte-requires-4
 unfolding line-R
@@ -35,9 +23,6 @@ put-byte-requires-4 c κs = search needs
 put-byte-requires-5 : tie.Need-put-byte-requires-5
 unfolding line-R
 put-byte-requires-5 c κs = search needs
-
-same-length : tie.Need-same-length
-same-length c = search needs
 
 returns : tie.Need-returns
 unfolding line-R
@@ -49,12 +34,12 @@ put-answer-spec =
     (tie.spec
     put-byte-requires
     put-byte-requires-2
-    cast-put-byte
-    add-put-byte
+    (λ c. search needs)
+    (λ c. search needs)
     put-byte-requires-3
-    cast-put-byte-2
-    add-put-byte-2
+    (λ c. search needs)
+    (λ c. search needs)
     put-byte-requires-4
     put-byte-requires-5
-    same-length
+    (λ c. search needs)
     returns)

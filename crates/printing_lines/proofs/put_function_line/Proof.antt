@@ -3,12 +3,6 @@ use borrow.Author.Needs.{needs}
 use Rattle.printing_lines.proofs.put_function_line.Statement.{statement}
 use Rattle.printing_lines.proofs.put_function_line.Tie as tie
 
-put-tagged-requires : tie.Need-put-tagged-requires
-put-tagged-requires c κs = search needs
-
-put-spaced-requires : tie.Need-put-spaced-requires
-put-spaced-requires c κs = search needs
-
 put-spaced-or-dash-requires : tie.Need-put-spaced-or-dash-requires
 put-spaced-or-dash-requires c κs = room-next (room-first _ _ _ _ (room-first _ _ _ _ (c .before .before .before .before .before .before .before .before .before .before .pre))) (printed-then (c .before .before .before .before .before .before .before .put-tagged .ensures) (c .before .before .before .put-spaced .ensures))
 
@@ -18,9 +12,6 @@ put-spaced-or-dash-requires-2 c κs = room-next (room-first _ _ _ _ (c .before .
 put-flags-requires : tie.Need-put-flags-requires
 put-flags-requires c κs = room-next (c .before .before .before .before .before .before .before .before .before .before .before .before .before .before .before .before .before .before .pre) (printed-then (printed-then (printed-then (c .before .before .before .before .before .before .before .before .before .before .before .before .before .before .before .put-tagged .ensures) (c .before .before .before .before .before .before .before .before .before .before .before .put-spaced .ensures)) (c .before .before .before .before .before .before .before .put-spaced-or-dash .ensures)) (c .before .before .before .put-spaced-or-dash2 .ensures))
 
-same-length : tie.Need-same-length
-same-length c = search needs
-
 returns : tie.Need-returns
 returns c = printed-then (printed-then (printed-then (printed-then (c .before .before .before .before .before .before .before .before .before .before .before .before .before .before .before .before .before .before .put-tagged .ensures) (c .before .before .before .before .before .before .before .before .before .before .before .before .before .before .put-spaced .ensures)) (c .before .before .before .before .before .before .before .before .before .before .put-spaced-or-dash .ensures)) (c .before .before .before .before .before .before .put-spaced-or-dash2 .ensures)) (c .before .before .put-flags .ensures)
 
@@ -28,10 +19,10 @@ pub put-function-line-spec : {M : Type 1} → statement M
 put-function-line-spec =
     tie.close
     (tie.spec
-    put-tagged-requires
-    put-spaced-requires
+    (λ c κs. search needs)
+    (λ c κs. search needs)
     put-spaced-or-dash-requires
     put-spaced-or-dash-requires-2
     put-flags-requires
-    same-length
+    (λ c. search needs)
     returns)

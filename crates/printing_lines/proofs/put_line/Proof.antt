@@ -4,17 +4,11 @@ use borrow.Author.Needs.{needs}
 use Rattle.printing_lines.proofs.put_line.Statement.{statement}
 use Rattle.printing_lines.proofs.put_line.Tie as tie
 
-put-tagged-requires : tie.Need-put-tagged-requires
-put-tagged-requires c κs = search needs
-
 put-second-requires : tie.Need-put-second-requires
 put-second-requires c κs = room-next (room-first _ (10 ∷ []) _ _ (c .before .before .before .before .before .before .pre)) (c .before .before .before .put-tagged .ensures)
 
 put-byte-requires : tie.Need-put-byte-requires
 put-byte-requires c κs = room-next (c .before .before .before .before .before .before .before .before .before .before .pre) (printed-then (c .before .before .before .before .before .before .before .put-tagged .ensures) (c .before .before .before .put-second .ensures))
-
-same-length : tie.Need-same-length
-same-length c = search needs
 
 returns : tie.Need-returns
 returns c = printed-then (printed-then (c .before .before .before .before .before .before .before .before .before .before .put-tagged .ensures) (c .before .before .before .before .before .before .put-second .ensures)) (c .before .before .put-byte .ensures)
@@ -22,4 +16,4 @@ returns c = printed-then (printed-then (c .before .before .before .before .befor
 pub put-line-spec : {M : Type 1} → statement M
 put-line-spec =
     tie.close
-    (tie.spec put-tagged-requires put-second-requires put-byte-requires same-length returns)
+    (tie.spec (λ c κs. search needs) put-second-requires put-byte-requires (λ c. search needs) returns)

@@ -8,26 +8,17 @@ use Rattle.printing_lines.proofs.put_second.Tie as tie
 put-spaced-or-dash-requires : tie.Need-put-spaced-or-dash-requires
 put-spaced-or-dash-requires c κs = rw (of-block _ _ (c .before .if1 .taken)) at (c .before .before .before .pre)
 
-same-length : tie.Need-same-length
-same-length c = search needs
-
 returns : tie.Need-returns
 returns c = rw (of-block _ _ (c .before .before .before .before .if1 .taken)) (c .before .before .put-spaced-or-dash .ensures)
 
 put-spaced-requires : tie.Need-put-spaced-requires
 put-spaced-requires c κs = rw (of-way _ _ (c .before .if2 .taken)) at (c .before .before .before .before .pre)
 
-same-length-2 : tie.Need-same-length-2
-same-length-2 c = search needs
-
 returns-2 : tie.Need-returns-2
 returns-2 c = rw (of-way _ _ (c .before .before .before .before .if2 .taken)) (c .before .before .put-spaced .ensures)
 
 put-spaced-number-requires : tie.Need-put-spaced-number-requires
 put-spaced-number-requires c κs = rw (of-table _ _ (c .before .if3 .taken)) at (c .before .before .before .before .before .pre)
-
-same-length-3 : tie.Need-same-length-3
-same-length-3 c = search needs
 
 returns-3 : tie.Need-returns-3
 returns-3 c = rw (of-table _ _ (c .before .before .before .before .if3 .taken)) (c .before .before .put-spaced-number .ensures)
@@ -40,12 +31,12 @@ put-second-spec =
     tie.close
     (tie.spec
     put-spaced-or-dash-requires
-    same-length
+    (λ c. search needs)
     returns
     put-spaced-requires
-    same-length-2
+    (λ c. search needs)
     returns-2
     put-spaced-number-requires
-    same-length-3
+    (λ c. search needs)
     returns-3
     returns-4)

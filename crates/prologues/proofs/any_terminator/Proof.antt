@@ -13,26 +13,11 @@ abbrev μ-loop : tie.MeasureT-loop
 loop-holds : tie.Need-loop-holds Inv-loop μ-loop
 loop-holds c = scan-first _ _ _ (c .before .pre)
 
-add-if1 : tie.Need-add-if1 Inv-loop μ-loop
-add-if1 c = search needs
-
 returns : tie.Need-returns Inv-loop μ-loop
 returns c = scan-past _ _ _ _ _ (c .before .before .loop .inv) (c .if1 .taken)
 
-word-at-requires : tie.Need-word-at-requires Inv-loop μ-loop
-word-at-requires c κs = search needs
-
-is-function-terminator-requires : tie.Need-is-function-terminator-requires Inv-loop μ-loop
-is-function-terminator-requires c κs = search needs
-
 returns-2 : tie.Need-returns-2 Inv-loop μ-loop
 returns-2 c = scan-found _ _ _ _ _ (c .before .before .before .before .before .loop .inv) _ (c .before .before .word-at .ensures) (c .before .before .before .before .loop-test .taken) _ (c .before .is-function-terminator .ensures) (c .if2 .taken)
-
-add-at : tie.Need-add-at Inv-loop μ-loop
-add-at c = search needs
-
-sub-left : tie.Need-sub-left Inv-loop μ-loop
-sub-left c = search needs
 
 loop-less : tie.Need-loop-less Inv-loop μ-loop
 loop-less c = omega arith
@@ -50,13 +35,13 @@ any-terminator-spec =
     Inv-loop
     μ-loop
     loop-holds
-    add-if1
+    (λ c. search needs)
     returns
-    word-at-requires
-    is-function-terminator-requires
+    (λ c κs. search needs)
+    (λ c κs. search needs)
     returns-2
-    add-at
-    sub-left
+    (λ c. search needs)
+    (λ c. search needs)
     loop-less
     loop-again
     returns-3)

@@ -3,12 +3,6 @@ use borrow.Author.Needs.{needs}
 use Rattle.prologues.proofs.check_epilogue.Statement.{statement}
 use Rattle.prologues.proofs.check_epilogue.Tie as tie
 
-check-epilogue-sequence-requires : tie.Need-check-epilogue-sequence-requires
-check-epilogue-sequence-requires c κs = search needs
-
-meet-epilogue-requires : tie.Need-meet-epilogue-requires
-meet-epilogue-requires c κs = search needs
-
 returns : tie.Need-returns
 returns c = epilogue-met _ _ (c .before .before .before .before .pre .0) _ _ _ _ (c .before .before .before .before .pre .1) (c .before .before .check-epilogue-sequence .ensures) _ (c .before .if1 .taken) (c .meet-epilogue .ensures)
 
@@ -17,4 +11,4 @@ returns-2 c = no-epilogue _ _ (c .before .before .before .pre .0) _ _ _ _ (c .be
 
 pub check-epilogue-spec : {M : Type 1} → statement M
 check-epilogue-spec =
-    tie.close (tie.spec check-epilogue-sequence-requires meet-epilogue-requires returns returns-2)
+    tie.close (tie.spec (λ c κs. search needs) (λ c κs. search needs) returns returns-2)

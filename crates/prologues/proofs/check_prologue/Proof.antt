@@ -3,17 +3,8 @@ use borrow.Author.Needs.{needs}
 use Rattle.prologues.proofs.check_prologue.Statement.{statement}
 use Rattle.prologues.proofs.check_prologue.Tie as tie
 
-is-lwz-requires : tie.Need-is-lwz-requires
-is-lwz-requires c κs = search needs
-
 returns : tie.Need-returns
 returns c = load-met _ _ _ _ (c .before .before .before .pre .1) _ _ (c .before .is-lwz .ensures) (c .if1 .taken)
-
-check-prologue-sequence-requires : tie.Need-check-prologue-sequence-requires
-check-prologue-sequence-requires c κs = search needs
-
-meet-prologue-requires : tie.Need-meet-prologue-requires
-meet-prologue-requires c κs = search needs
 
 returns-2 : tie.Need-returns-2
 returns-2 c = prologue-met _ _ _ _ (c .before .before .before .before .before .before .pre .1) _ _ (c .before .before .before .before .is-lwz .ensures) _ _ (c .before .before .before .if1 .left) (c .before .before .before .before .before .before .pre .2) (c .before .before .check-prologue-sequence .ensures) _ (c .before .if2 .taken) (c .meet-prologue .ensures)
@@ -25,9 +16,9 @@ pub check-prologue-spec : {M : Type 1} → statement M
 check-prologue-spec =
     tie.close
     (tie.spec
-    is-lwz-requires
+    (λ c κs. search needs)
     returns
-    check-prologue-sequence-requires
-    meet-prologue-requires
+    (λ c κs. search needs)
+    (λ c κs. search needs)
     returns-2
     returns-3)

@@ -12,27 +12,6 @@ abbrev μ-loop : tie.MeasureT-loop
 loop-holds : tie.Need-loop-holds Inv-loop μ-loop
 loop-holds c = search needs
 
-mul-mix : tie.Need-mul-mix Inv-loop μ-loop
-mul-mix c = search needs
-
-element-copy-out-mix : tie.Need-element-copy-out-mix Inv-loop μ-loop
-element-copy-out-mix c = search needs
-
-mix-requires : tie.Need-mix-requires Inv-loop μ-loop
-mix-requires c κs = search needs
-
-mul-mix-2 : tie.Need-mul-mix-2 Inv-loop μ-loop
-mul-mix-2 c = search needs
-
-element-copy-out-mix-2 : tie.Need-element-copy-out-mix-2 Inv-loop μ-loop
-element-copy-out-mix-2 c = search needs
-
-mix-requires-2 : tie.Need-mix-requires-2 Inv-loop μ-loop
-mix-requires-2 c κs = search needs
-
-add-i : tie.Need-add-i Inv-loop μ-loop
-add-i c = search needs
-
 loop-less : tie.Need-loop-less Inv-loop μ-loop
 loop-less c = search needs
 
@@ -49,13 +28,13 @@ sum-of-records-spec =
     Inv-loop
     μ-loop
     loop-holds
-    mul-mix
-    element-copy-out-mix
-    mix-requires
-    mul-mix-2
-    element-copy-out-mix-2
-    mix-requires-2
-    add-i
+    (λ c. search needs)
+    (λ c. search needs)
+    (λ c κs. search needs)
+    (λ c. search needs)
+    (λ c. search needs)
+    (λ c κs. search needs)
+    (λ c. search needs)
     loop-less
     loop-again
     returns)

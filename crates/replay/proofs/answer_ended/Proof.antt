@@ -15,36 +15,6 @@ abbrev μ-loop : tie.MeasureT-loop
 loop-holds : tie.Need-loop-holds Inv-loop μ-loop
 loop-holds c = search needs
 
-sub-next-mark : tie.Need-sub-next-mark Inv-loop μ-loop
-sub-next-mark c = search needs
-
-part-next-mark-start : tie.Need-part-next-mark-start Inv-loop μ-loop
-part-next-mark-start c = search needs
-
-part-next-mark-end : tie.Need-part-next-mark-end Inv-loop μ-loop
-part-next-mark-end c = search needs
-
-next-mark-requires : tie.Need-next-mark-requires Inv-loop μ-loop
-next-mark-requires c κs = search needs
-
-add-end : tie.Need-add-end Inv-loop μ-loop
-add-end c = search needs
-
-sub-answer : tie.Need-sub-answer Inv-loop μ-loop
-sub-answer c = search needs
-
-part-answer-start : tie.Need-part-answer-start Inv-loop μ-loop
-part-answer-start c = search needs
-
-part-answer-end : tie.Need-part-answer-end Inv-loop μ-loop
-part-answer-end c = search needs
-
-answer-requires : tie.Need-answer-requires Inv-loop μ-loop
-answer-requires c κs = search needs
-
-add-at : tie.Need-add-at Inv-loop μ-loop
-add-at c = search needs
-
 loop-less : tie.Need-loop-less Inv-loop μ-loop
 loop-less c = search needs
 
@@ -64,16 +34,16 @@ answer-ended-spec =
     Inv-loop
     μ-loop
     loop-holds
-    sub-next-mark
-    part-next-mark-start
-    part-next-mark-end
-    next-mark-requires
-    add-end
-    sub-answer
-    part-answer-start
-    part-answer-end
-    answer-requires
-    add-at
+    (λ c. search needs)
+    (λ c. search needs)
+    (λ c. search needs)
+    (λ c κs. search needs)
+    (λ c. search needs)
+    (λ c. search needs)
+    (λ c. search needs)
+    (λ c. search needs)
+    (λ c κs. search needs)
+    (λ c. search needs)
     loop-less
     loop-again
     returns

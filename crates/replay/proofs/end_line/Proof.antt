@@ -6,21 +6,6 @@ use Rattle.replay.proofs.end_line.Tie as tie
 returns : tie.Need-returns
 returns c = search (needs, nothing-ended)
 
-sub-if2 : tie.Need-sub-if2
-sub-if2 c = search needs
-
-slice-read-if2 : tie.Need-slice-read-if2
-slice-read-if2 c = search needs
-
-slice-write-text : tie.Need-slice-write-text
-slice-write-text c = search needs
-
-add-result : tie.Need-add-result
-add-result c = search needs
-
-same-length : tie.Need-same-length
-same-length c = search needs
-
 returns-2 : tie.Need-returns-2
 returns-2 c = search (needs, mark-ended)
 
@@ -32,10 +17,10 @@ end-line-spec =
     tie.close
     (tie.spec
     returns
-    sub-if2
-    slice-read-if2
-    slice-write-text
-    add-result
-    same-length
+    (λ c. search needs)
+    (λ c. search needs)
+    (λ c. search needs)
+    (λ c. search needs)
+    (λ c. search needs)
     returns-2
     returns-3)

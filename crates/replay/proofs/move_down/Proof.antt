@@ -16,29 +16,11 @@ abbrev μ-loop : tie.MeasureT-loop
 loop-holds : tie.Need-loop-holds Inv-loop μ-loop
 loop-holds c = (copied-start _ _ _, omega arith)
 
-sub-loop : tie.Need-sub-loop Inv-loop μ-loop
-sub-loop c = search needs
-
-add-text : tie.Need-add-text Inv-loop μ-loop
-add-text c = search needs
-
-slice-read-text : tie.Need-slice-read-text Inv-loop μ-loop
-slice-read-text c = search needs
-
-slice-write-text : tie.Need-slice-write-text Inv-loop μ-loop
-slice-write-text c = search needs
-
-add-i : tie.Need-add-i Inv-loop μ-loop
-add-i c = search needs
-
 loop-less : tie.Need-loop-less Inv-loop μ-loop
 loop-less c = search needs
 
 loop-again : tie.Need-loop-again Inv-loop μ-loop
 loop-again c = (moved-next _ _ _ _ _ (c .before .before .before .pre .0) (c .before .before .before .pre .1) (c .before .loop-test .taken) (c .before .before .loop .inv .0), search needs)
-
-same-length : tie.Need-same-length Inv-loop μ-loop
-same-length c = search needs
 
 returns : tie.Need-returns Inv-loop μ-loop
 returns c = moved-all _ _ _ _ _ (c .loop-test .left) (c .before .loop .inv .1) (c .before .loop .inv .0)
@@ -50,12 +32,12 @@ move-down-spec =
     Inv-loop
     μ-loop
     loop-holds
-    sub-loop
-    add-text
-    slice-read-text
-    slice-write-text
-    add-i
+    (λ c. search needs)
+    (λ c. search needs)
+    (λ c. search needs)
+    (λ c. search needs)
+    (λ c. search needs)
     loop-less
     loop-again
-    same-length
+    (λ c. search needs)
     returns)

@@ -14,12 +14,6 @@ abbrev μ-loop : tie.MeasureT-loop
 loop-holds : tie.Need-loop-holds Inv-loop μ-loop
 loop-holds c = search needs
 
-replay-more-requires : tie.Need-replay-more-requires Inv-loop μ-loop
-replay-more-requires c κs = search needs
-
-add-turn : tie.Need-add-turn Inv-loop μ-loop
-add-turn c = search needs
-
 loop-less : tie.Need-loop-less Inv-loop μ-loop
 loop-less c = search needs
 
@@ -32,12 +26,6 @@ loop-less-2 c = search needs
 loop-again-2 : tie.Need-loop-again-2 Inv-loop μ-loop
 loop-again-2 c = search needs
 
-replay-last-requires : tie.Need-replay-last-requires Inv-loop μ-loop
-replay-last-requires c κs = search needs
-
-same-length : tie.Need-same-length Inv-loop μ-loop
-same-length c = search needs
-
 returns : tie.Need-returns Inv-loop μ-loop
 returns c = search needs
 
@@ -48,12 +36,12 @@ replay-all-spec =
     Inv-loop
     μ-loop
     loop-holds
-    replay-more-requires
-    add-turn
+    (λ c κs. search needs)
+    (λ c. search needs)
     loop-less
     loop-again
     loop-less-2
     loop-again-2
-    replay-last-requires
-    same-length
+    (λ c κs. search needs)
+    (λ c. search needs)
     returns)

@@ -4,20 +4,11 @@ use borrow.Author.Needs.{needs}
 use Rattle.results.proofs.put_results.Statement.{statement}
 use Rattle.results.proofs.put_results.Tie as tie
 
-put-rows-requires : tie.Need-put-rows-requires
-put-rows-requires c κs = search needs
-
 offset-requires : tie.Need-offset-requires
 offset-requires c κs = let g = c .before .before .before .before .before .before .before .before .before .pre .0 in total-fits _ _ _ _ (g .entries) (g .holds)
 
 clear-requires : tie.Need-clear-requires
 clear-requires c κs = let g = c .before .before .before .before .before .before .before .before .before .before .before .pre .0 in omega (arith, c .before .offset .ensures, total-fits _ _ _ _ (g .entries) (g .holds) .1)
-
-same-length : tie.Need-same-length
-same-length c = search needs
-
-same-length-2 : tie.Need-same-length-2
-same-length-2 c = search needs
 
 returns : tie.Need-returns
 returns c = λ es h. results-done _ _ _ _ es h _ _ _ _ (c .before .before .before .before .before .before .before .put-rows .ensures es h) (c .before .before .before .before .offset .ensures) (c .before .before .clear .ensures)
@@ -25,4 +16,4 @@ returns c = λ es h. results-done _ _ _ _ es h _ _ _ _ (c .before .before .befor
 pub put-results-spec : {M : Type 1} → statement M
 put-results-spec =
     tie.close
-    (tie.spec put-rows-requires offset-requires clear-requires same-length same-length-2 returns)
+    (tie.spec (λ c κs. search needs) offset-requires clear-requires (λ c. search needs) (λ c. search needs) returns)

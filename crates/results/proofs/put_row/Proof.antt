@@ -9,59 +9,8 @@ use borrow.Author.Needs.{needs}
 use Rattle.results.proofs.put_row.Statement.{statement}
 use Rattle.results.proofs.put_row.Tie as tie
 
-mul-p : tie.Need-mul-p
-mul-p c = search needs
-
-mul-a : tie.Need-mul-a
-mul-a c = search needs
-
-add-b : tie.Need-add-b
-add-b c = search needs
-
-mul-rows : tie.Need-mul-rows
-mul-rows c = search needs
-
-shared-slice-read-rows : tie.Need-shared-slice-read-rows
-shared-slice-read-rows c = search needs
-
-mul-rows-2 : tie.Need-mul-rows-2
-mul-rows-2 c = search needs
-
-slice-write-rows : tie.Need-slice-write-rows
-slice-write-rows c = search needs
-
-add-rows : tie.Need-add-rows
-add-rows c = search needs
-
-mul-rows-3 : tie.Need-mul-rows-3
-mul-rows-3 c = search needs
-
-shared-slice-read-rows-2 : tie.Need-shared-slice-read-rows-2
-shared-slice-read-rows-2 c = search needs
-
-add-rows-2 : tie.Need-add-rows-2
-add-rows-2 c = search needs
-
-mul-rows-4 : tie.Need-mul-rows-4
-mul-rows-4 c = search needs
-
 slice-write-rows-2 : tie.Need-slice-write-rows-2
 slice-write-rows-2 c = simp length-set (omega (arith, c .before .before .before .before .before .pre))
-
-add-copy-in : tie.Need-add-copy-in
-add-copy-in c = search needs
-
-mul-copy-in : tie.Need-mul-copy-in
-mul-copy-in c = search needs
-
-sub-copy-in : tie.Need-sub-copy-in
-sub-copy-in c = search needs
-
-part-copy-in-start : tie.Need-part-copy-in-start
-part-copy-in-start c = search needs
-
-part-copy-in-end : tie.Need-part-copy-in-end
-part-copy-in-end c = search needs
 
 copy-in-requires : tie.Need-copy-in-requires
 copy-in-requires c κs =
@@ -90,24 +39,24 @@ pub put-row-spec : {M : Type 1} → statement M
 put-row-spec =
     tie.close
     (tie.spec
-    mul-p
-    mul-a
-    add-b
-    mul-rows
-    shared-slice-read-rows
-    mul-rows-2
-    slice-write-rows
-    add-rows
-    mul-rows-3
-    shared-slice-read-rows-2
-    add-rows-2
-    mul-rows-4
+    (λ c. search needs)
+    (λ c. search needs)
+    (λ c. search needs)
+    (λ c. search needs)
+    (λ c. search needs)
+    (λ c. search needs)
+    (λ c. search needs)
+    (λ c. search needs)
+    (λ c. search needs)
+    (λ c. search needs)
+    (λ c. search needs)
+    (λ c. search needs)
     slice-write-rows-2
-    add-copy-in
-    mul-copy-in
-    sub-copy-in
-    part-copy-in-start
-    part-copy-in-end
+    (λ c. search needs)
+    (λ c. search needs)
+    (λ c. search needs)
+    (λ c. search needs)
+    (λ c. search needs)
     copy-in-requires
     same-length
     returns)

@@ -7,23 +7,11 @@ use borrow.Author.Needs.{needs}
 use Rattle.run.proofs.enter.Statement.{statement}
 use Rattle.run.proofs.enter.Tie as tie
 
-cast-x : tie.Need-cast-x
-cast-x c = search needs
-
-with-fault-requires : tie.Need-with-fault-requires
-with-fault-requires c κs = search needs
-
 returns : tie.Need-returns
 returns c = (c .before .before .before .before .before .before .before .before .before .before .pre .1 .1, λ e o q. entered-below e _ _ _ _ _ (alike _ _ _ _ _ _ e o .code) _ refl _ (c .before .if1 .taken) (c .with-fault .ensures))
 
-with-fault-requires-2 : tie.Need-with-fault-requires-2
-with-fault-requires-2 c κs = search needs
-
 returns-2 : tie.Need-returns-2
 returns-2 c = (c .before .before .before .before .before .before .before .before .before .before .before .before .pre .1 .1, λ e o q. entered-above e _ _ _ _ _ (alike _ _ _ _ _ _ e o .code) _ refl _ (c .before .before .before .if1 .left) (c .before .if2 .taken) (c .with-fault2 .ensures))
-
-cast-i : tie.Need-cast-i
-cast-i c = search needs
 
 seen-requires : tie.Need-seen-requires
 seen-requires c κs = omega (arith, code-in _ _ _ _ _ _ _ (c .before .before .before .before .before .before .before .before .before .before .before .before .pre .0 .of) .0)
@@ -31,17 +19,8 @@ seen-requires c κs = omega (arith, code-in _ _ _ _ _ _ _ (c .before .before .be
 visit-requires : tie.Need-visit-requires
 visit-requires c κs = (omega (arith, code-in _ _ _ _ _ _ _ (c .before .before .before .before .before .before .before .before .before .before .before .before .before .before .pre .0 .of) .0), c .before .before .before .before .before .before .before .before .before .before .before .before .before .before .pre .1 .1)
 
-or-not-requires : tie.Need-or-not-requires
-or-not-requires c κs = search needs
-
 instruction-callback-requires : tie.Need-instruction-callback-requires
 instruction-callback-requires c κs = (c .before .before .before .before .before .before .before .before .before .before .before .before .before .before .before .before .before .before .before .pre .0, (going-fresh _ _ _ _ (c .before .before .before .before .before .before .before .before .before .before .before .before .before .before .before .before .before .before .before .pre .1 .0), at-word _ _ _ _ _ (c .before .before .before .before .before .before .before .before .before .before .before .before .before .before .before .before .before .before .before .pre .1 .0) refl (c .before .before .before .before .before .before .before .before .before .before .if1 .left) (c .before .before .before .before .before .before .before .before .if2 .left)))
-
-same-length : tie.Need-same-length
-same-length c = search needs
-
-same-length-2 : tie.Need-same-length-2
-same-length-2 c = search needs
 
 returns-3 : tie.Need-returns-3
 returns-3 c = (c .before .before .before .before .before .before .before .before .before .visit .ensures .1, λ e o q. entered-on e _ _ _ _ _ (alike _ _ _ _ _ _ e o .code) _ refl (c .before .before .before .before .before .before .before .before .before .before .before .before .before .before .before .if1 .left) (c .before .before .before .before .before .before .before .before .before .before .before .before .before .if2 .left) _ _ (c .before .before .before .before .before .before .before .before .before .before .before .seen .ensures) (c .before .before .before .before .before .before .before .before .or-not .ensures) _ (c .before .before .before .before .before .before .before .before .before .visit .ensures .0) _ _ _ _ (c .before .before .before .before .instruction-callback .ensures e o q))
@@ -50,16 +29,16 @@ pub enter-spec : {M : Type 1} → statement M
 enter-spec =
     tie.close
     (tie.spec
-    cast-x
-    with-fault-requires
+    (λ c. search needs)
+    (λ c κs. search needs)
     returns
-    with-fault-requires-2
+    (λ c κs. search needs)
     returns-2
-    cast-i
+    (λ c. search needs)
     seen-requires
     visit-requires
-    or-not-requires
+    (λ c κs. search needs)
     instruction-callback-requires
-    same-length
-    same-length-2
+    (λ c. search needs)
+    (λ c. search needs)
     returns-3)

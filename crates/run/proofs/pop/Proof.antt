@@ -3,14 +3,8 @@ use borrow.Author.Needs.{needs}
 use Rattle.run.proofs.pop.Statement.{statement}
 use Rattle.run.proofs.pop.Tie as tie
 
-pop-requires : tie.Need-pop-requires
-pop-requires c κs = search needs
-
-take-pending-requires : tie.Need-take-pending-requires
-take-pending-requires c κs = search needs
-
 returns : tie.Need-returns
 returns c = λ l e v s i code g. popped _ v _ _ (c .before .pop .ensures) e _ _ _ _ _ (c .take-pending .ensures l e _ v s i code (going-popped _ v _ _ (c .before .pop .ensures) g))
 
 pub pop-spec : {M : Type 1} → statement M
-pop-spec = tie.close (tie.spec pop-requires take-pending-requires returns)
+pop-spec = tie.close (tie.spec (λ c κs. search needs) (λ c κs. search needs) returns)

@@ -8,20 +8,11 @@ use Rattle.run.proofs.step.Tie as tie
 enter-requires : tie.Need-enter-requires
 enter-requires c κs = (c .before .before .before .before .before .before .before .before .before .before .before .before .before .pre .0, (c .before .before .before .before .before .before .before .before .before .before .before .before .before .pre .1 .0 .0, c .before .before .before .before .before .before .before .before .before .before .before .before .before .pre .1 .1))
 
-same-length : tie.Need-same-length
-same-length c = search needs
-
-same-length-2 : tie.Need-same-length-2
-same-length-2 c = search needs
-
 returns : tie.Need-returns
 returns c = (c .before .before .before .before .enter .ensures .0, λ e o q. step-word _ e _ _ _ _ _ _ _ (c .before .before .before .before .before .before .before .before .if1 .taken) (c .before .before .before .before .enter .ensures .1 e o q))
 
 pop-requires : tie.Need-pop-requires
 pop-requires c κs = (few _ _ _ _ _ _ _ (c .before .before .before .before .before .before .before .before .before .before .before .before .pre .0 .of), (code-in _ _ _ _ _ _ _ (c .before .before .before .before .before .before .before .before .before .before .before .before .pre .0 .of), (c .before .before .before .before .before .before .before .before .before .before .before .before .pre .1 .0 .0 .fits .lists .keys, (some-pending _ (c .before .before .before .before .before .before .before .before .before .before .before .before .pre .1 .0 .1) (c .before .before .if1 .left) .1, c .before .before .before .before .before .before .before .before .before .before .before .before .pre .1 .0 .0 .fits .few))))
-
-same-length-3 : tie.Need-same-length-3
-same-length-3 c = search needs
 
 returns-2 : tie.Need-returns-2
 returns-2 c = (c .before .before .before .before .before .before .before .before .before .before .before .before .before .pre .1 .1, λ e o q. step-pop _ e _ _ _ _ _ _ _ (some-pending _ (c .before .before .before .before .before .before .before .before .before .before .before .before .before .pre .1 .0 .1) (c .before .before .before .if1 .left) .0) (c .pop .ensures (o .lent) e _ (o .sections) (o .is-image) (alike _ _ _ _ _ _ e o .code) (c .before .before .before .before .before .before .before .before .before .before .before .before .before .pre .1 .0 .0)))
@@ -31,9 +22,9 @@ step-spec =
     tie.close
     (tie.spec
     enter-requires
-    same-length
-    same-length-2
+    (λ c. search needs)
+    (λ c. search needs)
     returns
     pop-requires
-    same-length-3
+    (λ c. search needs)
     returns-2)

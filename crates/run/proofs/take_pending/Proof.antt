@@ -3,26 +3,14 @@ use borrow.Author.Needs.{needs}
 use Rattle.run.proofs.take_pending.Statement.{statement}
 use Rattle.run.proofs.take_pending.Tie as tie
 
-is-in-section-requires : tie.Need-is-in-section-requires
-is-in-section-requires c κs = search needs
-
-is-seen-requires : tie.Need-is-seen-requires
-is-seen-requires c κs = search needs
-
 returns : tie.Need-returns
 returns c = λ l e k v s i code g. taken-seen l e _ k v _ _ _ i code g _ (c .before .before .before .before .before .is-in-section .ensures l s) (c .before .before .if2 .taken) _ (c .before .is-seen .ensures _ code) (c .before .before .before .before .if1 .taken) (c .if3 .taken)
-
-go-to-requires : tie.Need-go-to-requires
-go-to-requires c κs = search needs
 
 returns-2 : tie.Need-returns-2
 returns-2 c = λ l e k v s i code g. taken-on l e _ k v _ _ _ i code g _ (c .before .before .before .before .before .before .is-in-section .ensures l s) (c .before .before .before .if2 .taken) _ (c .before .before .is-seen .ensures _ code) _ (c .before .before .before .before .before .if1 .taken) (c .before .if3 .left) (c .before .before .before .before .before .before .before .before .pre .1 .1) (c .go-to .ensures)
 
 returns-3 : tie.Need-returns-3
 returns-3 c = λ l e k v s i code g. taken-elsewhere l e _ k v _ _ _ i code g _ (c .before .before .before .is-in-section .ensures l s) (c .before .before .if1 .taken) (c .if2 .left)
-
-with-fault-requires : tie.Need-with-fault-requires
-with-fault-requires c κs = search needs
 
 returns-4 : tie.Need-returns-4
 returns-4 c = λ l e k v s i code g. taken-outside l e _ k v _ _ _ i code g _ (c .before .before .is-in-section .ensures l s) _ (c .before .if1 .left) (c .with-fault .ensures)
@@ -31,11 +19,11 @@ pub take-pending-spec : {M : Type 1} → statement M
 take-pending-spec =
     tie.close
     (tie.spec
-    is-in-section-requires
-    is-seen-requires
+    (λ c κs. search needs)
+    (λ c κs. search needs)
     returns
-    go-to-requires
+    (λ c κs. search needs)
     returns-2
     returns-3
-    with-fault-requires
+    (λ c κs. search needs)
     returns-4)

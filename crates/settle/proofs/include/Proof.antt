@@ -3,17 +3,8 @@ use borrow.Author.Needs.{needs}
 use Rattle.settle.proofs.include.Statement.{statement}
 use Rattle.settle.proofs.include.Tie as tie
 
-discard-possible-requires : tie.Need-discard-possible-requires
-discard-possible-requires c κs = search needs
-
 analyze-requires : tie.Need-analyze-requires
 analyze-requires c κs = (c .before .before .before .before .before .before .before .before .before .before .before .before .before .before .before .before .before .pre .0, fits-discarded _ _ _ _ _ _ _ (c .before .before .before .before .before .before .discard-possible .ensures))
-
-same-length : tie.Need-same-length
-same-length c = search needs
-
-same-length-2 : tie.Need-same-length-2
-same-length-2 c = search needs
 
 returns : tie.Need-returns
 returns c = λ e o q low last. included _ _ _ _ _ _ _ (c .before .before .before .before .before .before .before .before .before .before .before .before .discard-possible .ensures) _ _ _ e low last (c .before .before .before .before .before .analyze .ensures e o q) _
@@ -21,4 +12,4 @@ returns c = λ e o q low last. included _ _ _ _ _ _ _ (c .before .before .before
 pub include-spec : {M : Type 1} → statement M
 include-spec =
     tie.close
-    (tie.spec discard-possible-requires analyze-requires same-length same-length-2 returns)
+    (tie.spec (λ c κs. search needs) analyze-requires (λ c. search needs) (λ c. search needs) returns)

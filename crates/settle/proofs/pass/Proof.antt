@@ -3,18 +3,6 @@ use borrow.Author.Needs.{needs}
 use Rattle.settle.proofs.pass.Statement.{statement}
 use Rattle.settle.proofs.pass.Tie as tie
 
-add-current : tie.Need-add-current
-add-current c = search needs
-
-include-requires : tie.Need-include-requires
-include-requires c κs = search needs
-
-same-length : tie.Need-same-length
-same-length c = search needs
-
-same-length-2 : tie.Need-same-length-2
-same-length-2 c = search needs
-
 returns : tie.Need-returns
 returns c = λ e o q low. passed-last e low _ _ _ _ _ _ _ _ (c .before .before .before .before .before .before .before .if1 .taken) (c .before .before .before .before .include .ensures e o q low _)
 
@@ -23,4 +11,4 @@ returns-2 c = λ e o q low. passed-over e low _ _ _ _ _ (c .if1 .left) (c .befor
 
 pub pass-spec : {M : Type 1} → statement M
 pass-spec =
-    tie.close (tie.spec add-current include-requires same-length same-length-2 returns returns-2)
+    tie.close (tie.spec (λ c. search needs) (λ c κs. search needs) (λ c. search needs) (λ c. search needs) returns returns-2)

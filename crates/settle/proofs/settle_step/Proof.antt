@@ -3,29 +3,11 @@ use borrow.Author.Needs.{needs}
 use Rattle.settle.proofs.settle_step.Statement.{statement}
 use Rattle.settle.proofs.settle_step.Tie as tie
 
-next-possible-requires : tie.Need-next-possible-requires
-next-possible-requires c κs = search needs
-
-check-tail-call-requires : tie.Need-check-tail-call-requires
-check-tail-call-requires c κs = search needs
-
-same-length : tie.Need-same-length
-same-length c = search needs
-
-same-length-2 : tie.Need-same-length-2
-same-length-2 c = search needs
-
 returns : tie.Need-returns
 returns c = λ e o q. step-fails e _ _ _ _ _ _ _ _ _ (c .before .before .before .before .before .before .before .before .next-possible .ensures) (c .before .before .before .before .before .check-tail-call .ensures e o q) (c .if1 .taken) _
 
 settle-requires : tie.Need-settle-requires
 settle-requires c κs = let p = c .before .before .before .before .before .before .before .before .before .before .before .before .before .before .before .before .before .before .before .before .before .before .pre in let l = p .0 in let d = c .before .before .before .before .before .before .before .check-tail-call .ensures (l .around) (l .of) (l .outcomes) in (l, ((d .fit (c .before .before .if1 .left), c .before .before .if1 .left), possible-low _ _ _ _ _ _ _ _ _ d (c .before .before .if1 .left) (l .of .start) (p .1 .1)))
-
-same-length-3 : tie.Need-same-length-3
-same-length-3 c = search needs
-
-same-length-4 : tie.Need-same-length-4
-same-length-4 c = search needs
 
 returns-2 : tie.Need-returns-2
 returns-2 c = λ e o q. step-on e _ _ _ _ _ _ _ _ _ (c .before .before .before .before .before .before .before .before .before .before .before .before .before .before .before .next-possible .ensures) (c .before .before .before .before .before .before .before .before .before .before .before .before .check-tail-call .ensures e o q) _ _ _ (c .before .before .before .before .before .before .before .if1 .left) (c .before .before .before .before .settle .ensures e o q)
@@ -34,12 +16,12 @@ pub settle-step-spec : {M : Type 1} → statement M
 settle-step-spec =
     tie.close
     (tie.spec
-    next-possible-requires
-    check-tail-call-requires
-    same-length
-    same-length-2
+    (λ c κs. search needs)
+    (λ c κs. search needs)
+    (λ c. search needs)
+    (λ c. search needs)
     returns
     settle-requires
-    same-length-3
-    same-length-4
+    (λ c. search needs)
+    (λ c. search needs)
     returns-2)

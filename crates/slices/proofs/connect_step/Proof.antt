@@ -4,23 +4,8 @@ use borrow.Author.Needs.{needs}
 use Rattle.slices.proofs.connect_step.Statement.{statement}
 use Rattle.slices.proofs.connect_step.Tie as tie
 
-first-disconnected-block-requires : tie.Need-first-disconnected-block-requires
-first-disconnected-block-requires c κs = search needs
-
-discard-possible-requires : tie.Need-discard-possible-requires
-discard-possible-requires c κs = search needs
-
-with-small-requires : tie.Need-with-small-requires
-with-small-requires c κs = search needs
-
 run-pass-requires : tie.Need-run-pass-requires
 run-pass-requires c κs = (c .before .before .before .before .before .before .before .before .before .before .before .before .before .before .before .before .before .before .before .before .before .before .pre .0, (going-behind _ _ _ _ _ _ _ _ (c .before .before .before .before .before .before .before .before .before .before .before .before .before .before .before .before .before .before .before .before .before .before .pre .1 .0) (c .before .before .before .before .before .before .before .before .discard-possible .ensures) (c .with-small .ensures), c .before .before .before .before .before .before .before .before .before .before .before .before .before .before .before .before .before .before .before .before .before .before .pre .1 .1))
-
-same-length : tie.Need-same-length
-same-length c = search needs
-
-same-length-2 : tie.Need-same-length-2
-same-length-2 c = search needs
 
 returns : tie.Need-returns
 returns c = (c .before .before .before .before .run-pass .ensures .0, λ e o q. pass-behind e _ _ _ _ _ _ _ _ _ _ _ _ _ _ (c .before .before .before .before .before .before .before .before .before .before .before .before .before .before .before .before .first-disconnected-block .ensures) (c .before .before .before .before .before .before .before .before .before .before .before .before .before .discard-possible .ensures) (c .before .before .before .before .before .with-small .ensures) (c .before .before .before .before .run-pass .ensures .1 e o q))
@@ -29,10 +14,10 @@ pub connect-step-spec : {M : Type 1} → statement M
 connect-step-spec =
     tie.close
     (tie.spec
-    first-disconnected-block-requires
-    discard-possible-requires
-    with-small-requires
+    (λ c κs. search needs)
+    (λ c κs. search needs)
+    (λ c κs. search needs)
     run-pass-requires
-    same-length
-    same-length-2
+    (λ c. search needs)
+    (λ c. search needs)
     returns)

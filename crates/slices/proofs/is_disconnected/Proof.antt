@@ -3,18 +3,12 @@ use borrow.Author.Needs.{needs}
 use Rattle.slices.proofs.is_disconnected.Statement.{statement}
 use Rattle.slices.proofs.is_disconnected.Tie as tie
 
-is-nowhere-requires : tie.Need-is-nowhere-requires
-is-nowhere-requires c κs = search needs
-
 returns : tie.Need-returns
 returns c = apart-nowhere _ _ _ _ (c .before .is-nowhere .ensures) (c .if1 .taken)
-
-first-disconnected-block-requires : tie.Need-first-disconnected-block-requires
-first-disconnected-block-requires c κs = search needs
 
 returns-2 : tie.Need-returns-2
 returns-2 c = apart-by _ _ _ _ (c .before .before .before .is-nowhere .ensures) _ _ (c .before .before .if1 .left) (c .before .first-disconnected-block .ensures)
 
 pub is-disconnected-spec : {M : Type 1} → statement M
 is-disconnected-spec =
-    tie.close (tie.spec is-nowhere-requires returns first-disconnected-block-requires returns-2)
+    tie.close (tie.spec (λ c κs. search needs) returns (λ c κs. search needs) returns-2)

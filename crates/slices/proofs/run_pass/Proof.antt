@@ -4,26 +4,8 @@ use borrow.Author.Needs.{needs}
 use Rattle.slices.proofs.run_pass.Statement.{statement}
 use Rattle.slices.proofs.run_pass.Tie as tie
 
-walk-from-requires : tie.Need-walk-from-requires
-walk-from-requires c κs = search needs
-
-same-length : tie.Need-same-length
-same-length c = search needs
-
-same-length-2 : tie.Need-same-length-2
-same-length-2 c = search needs
-
 returns : tie.Need-returns
 returns c = (c .before .before .before .before .before .before .walk-from .ensures .0, λ e o q. pass-fails e _ _ _ _ _ _ _ _ _ (c .before .before .before .before .before .before .walk-from .ensures .1 e o q) (c .if1 .taken))
-
-checked-pass-requires : tie.Need-checked-pass-requires
-checked-pass-requires c κs = search needs
-
-same-length-3 : tie.Need-same-length-3
-same-length-3 c = search needs
-
-same-length-4 : tie.Need-same-length-4
-same-length-4 c = search needs
 
 returns-2 : tie.Need-returns-2
 returns-2 c = (c .before .before .before .before .before .before .before .walk-from .ensures .0, λ e o q. pass-checked e _ _ _ _ _ _ _ _ _ (c .before .before .before .before .before .before .before .walk-from .ensures .1 e o q) _ (c .before .if1 .left) (c .checked-pass .ensures e _ _ _ (going-on (c .before .before .before .before .before .before .before .walk-from .ensures .1 e o q) (c .before .if1 .left))))
@@ -32,11 +14,11 @@ pub run-pass-spec : {M : Type 1} → statement M
 run-pass-spec =
     tie.close
     (tie.spec
-    walk-from-requires
-    same-length
-    same-length-2
+    (λ c κs. search needs)
+    (λ c. search needs)
+    (λ c. search needs)
     returns
-    checked-pass-requires
-    same-length-3
-    same-length-4
+    (λ c κs. search needs)
+    (λ c. search needs)
+    (λ c. search needs)
     returns-2)

@@ -5,29 +5,14 @@ use borrow.Author.Needs.{needs}
 use Rattle.slices.proofs.walk_from.Statement.{statement}
 use Rattle.slices.proofs.walk_from.Tie as tie
 
-start-pass-requires : tie.Need-start-pass-requires
-start-pass-requires c κs = search needs
-
 push-requires : tie.Need-push-requires
 push-requires c κs = going-again _ _ _ _ (c .start-pass .ensures) (c .before .before .before .before .before .before .before .before .before .before .before .pre .1 .0)
-
-same-length : tie.Need-same-length
-same-length c = search needs
-
-same-length-2 : tie.Need-same-length-2
-same-length-2 c = search needs
 
 returns : tie.Need-returns
 returns c = (c .before .before .before .before .before .before .before .before .before .before .before .before .before .before .before .before .pre .1 .1, λ e o q. from-full e _ _ _ _ _ _ (c .before .before .before .before .before .start-pass .ensures) _ _ _ (c .before .before .before .before .push .ensures _) (c .if1 .taken))
 
 run-walk-requires : tie.Need-run-walk-requires
 run-walk-requires c κs = (c .before .before .before .before .before .before .before .before .before .before .before .before .before .before .before .before .before .before .before .pre .0, (going-on (c .before .before .before .before .before .before .before .push .ensures (λ _. false)) (c .before .before .before .if1 .left), c .before .before .before .before .before .before .before .before .before .before .before .before .before .before .before .before .before .before .before .pre .1 .1))
-
-same-length-3 : tie.Need-same-length-3
-same-length-3 c = search needs
-
-same-length-4 : tie.Need-same-length-4
-same-length-4 c = search needs
 
 returns-2 : tie.Need-returns-2
 returns-2 c = (c .before .before .before .before .run-walk .ensures .0, λ e o q. from-on e _ _ _ _ _ _ (c .before .before .before .before .before .before .before .before .before .before .before .before .before .start-pass .ensures) _ _ _ (c .before .before .before .before .before .before .before .before .before .before .before .before .push .ensures _) _ _ _ _ (c .before .before .before .before .before .before .before .before .if1 .left) (c .before .before .before .before .run-walk .ensures .1 e o q))
@@ -36,12 +21,12 @@ pub walk-from-spec : {M : Type 1} → statement M
 walk-from-spec =
     tie.close
     (tie.spec
-    start-pass-requires
+    (λ c κs. search needs)
     push-requires
-    same-length
-    same-length-2
+    (λ c. search needs)
+    (λ c. search needs)
     returns
     run-walk-requires
-    same-length-3
-    same-length-4
+    (λ c. search needs)
+    (λ c. search needs)
     returns-2)

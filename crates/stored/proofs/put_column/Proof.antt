@@ -3,17 +3,8 @@ use borrow.Author.Needs.{needs}
 use Rattle.stored.proofs.put_column.Statement.{statement}
 use Rattle.stored.proofs.put_column.Tie as tie
 
-copy-in-requires : tie.Need-copy-in-requires
-copy-in-requires c κs = search needs
-
-add-result : tie.Need-add-result
-add-result c = search needs
-
-same-length : tie.Need-same-length
-same-length c = search needs
-
 returns : tie.Need-returns
 returns c = copied _ _ _ _ _ (c .before .before .before .before .before .before .pre .0) (c .before .before .copy-in .ensures)
 
 pub put-column-spec : {M : Type 1} → statement M
-put-column-spec = tie.close (tie.spec copy-in-requires add-result same-length returns)
+put-column-spec = tie.close (tie.spec (λ c κs. search needs) (λ c. search needs) (λ c. search needs) returns)

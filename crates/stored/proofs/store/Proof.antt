@@ -3,12 +3,6 @@ use borrow.Author.Needs.{needs}
 use Rattle.stored.proofs.store.Statement.{statement}
 use Rattle.stored.proofs.store.Tie as tie
 
-size-requires : tie.Need-size-requires
-size-requires c κs = search needs
-
-sub-if1 : tie.Need-sub-if1
-sub-if1 c = search needs
-
 returns : tie.Need-returns
 returns c = too-long _ _ _ _ (c .before .before .before .before .before .pre .1) (c .before .size .ensures) (c .if1 .taken)
 
@@ -18,9 +12,6 @@ put-flow-requires c κs = (c .before .before .before .before .before .before .pr
 put-others-requires : tie.Need-put-others-requires
 put-others-requires c κs = (c .before .before .before .before .before .before .before .before .before .before .pre .0, others-next _ _ _ _ (c .before .before .before .before .before .before .before .before .before .before .pre .1) (c .before .before .before .before .before .before .size .ensures) (c .before .before .before .before .before .if1 .left) _ _ (c .before .before .before .put-flow .ensures))
 
-same-length : tie.Need-same-length
-same-length c = search needs
-
 returns-2 : tie.Need-returns-2
 returns-2 c = all-stored _ _ _ _ (c .before .before .before .before .before .before .before .before .before .before .before .before .before .pre .1) (c .before .before .before .before .before .before .before .before .before .size .ensures) (c .before .before .before .before .before .before .before .before .if1 .left) _ _ (c .before .before .before .before .before .before .put-flow .ensures) _ _ (c .before .before .put-others .ensures)
 
@@ -28,10 +19,10 @@ pub store-spec : {M : Type 1} → statement M
 store-spec =
     tie.close
     (tie.spec
-    size-requires
-    sub-if1
+    (λ c κs. search needs)
+    (λ c. search needs)
     returns
     put-flow-requires
     put-others-requires
-    same-length
+    (λ c. search needs)
     returns-2)

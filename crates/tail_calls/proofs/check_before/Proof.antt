@@ -3,14 +3,8 @@ use borrow.Author.Needs.{needs}
 use Rattle.tail_calls.proofs.check_before.Statement.{statement}
 use Rattle.tail_calls.proofs.check_before.Tie as tie
 
-is-own-requires : tie.Need-is-own-requires
-is-own-requires c κs = search needs
-
 returns : tie.Need-returns
 returns c = not-one _ _ _ _ _ _ _ _ (c .before .is-own .ensures) (c .if1 .taken)
-
-is-separate-requires : tie.Need-is-separate-requires
-is-separate-requires c κs = search needs
 
 returns-2 : tie.Need-returns-2
 returns-2 c = is-apart-one _ _ _ _ _ _ _ _ (c .before .before .before .is-own .ensures) (c .before .before .if1 .left) _ (c .before .is-separate .ensures) (c .if2 .taken)
@@ -18,14 +12,8 @@ returns-2 c = is-apart-one _ _ _ _ _ _ _ _ (c .before .before .before .is-own .e
 returns-3 : tie.Need-returns-3
 returns-3 c = no-end _ _ _ _ _ _ _ _ (c .before .before .before .before .before .is-own .ensures) (c .before .before .before .before .if1 .left) _ (c .before .before .before .is-separate .ensures) (c .before .before .if2 .left) (c .if3 .taken)
 
-is-referred-requires : tie.Need-is-referred-requires
-is-referred-requires c κs = search needs
-
 returns-4 : tie.Need-returns-4
 returns-4 c = is-referred-one _ _ _ _ _ _ _ _ (c .before .before .before .before .before .before .before .is-own .ensures) (c .before .before .before .before .before .before .if1 .left) _ (c .before .before .before .before .before .is-separate .ensures) (c .before .before .before .before .if2 .left) (c .before .before .if3 .left) _ (c .before .is-referred .ensures) (c .if4 .taken)
-
-prologue-before-requires : tie.Need-prologue-before-requires
-prologue-before-requires c κs = search needs
 
 returns-5 : tie.Need-returns-5
 returns-5 c = is-behind-prologue _ _ _ _ _ _ _ _ (c .before .before .before .before .before .before .before .before .before .is-own .ensures) (c .before .before .before .before .before .before .before .before .if1 .left) _ (c .before .before .before .before .before .before .before .is-separate .ensures) (c .before .before .before .before .before .before .if2 .left) (c .before .before .before .before .if3 .left) _ (c .before .before .before .is-referred .ensures) (c .before .before .if4 .left) _ (c .before .prologue-before .ensures) (c .if5 .taken)
@@ -37,13 +25,13 @@ pub check-before-spec : {M : Type 1} → statement M
 check-before-spec =
     tie.close
     (tie.spec
-    is-own-requires
+    (λ c κs. search needs)
     returns
-    is-separate-requires
+    (λ c κs. search needs)
     returns-2
     returns-3
-    is-referred-requires
+    (λ c κs. search needs)
     returns-4
-    prologue-before-requires
+    (λ c κs. search needs)
     returns-5
     returns-6)

@@ -3,9 +3,6 @@ use borrow.Author.Needs.{needs}
 use Rattle.tail_calls.proofs.is_own.Statement.{statement}
 use Rattle.tail_calls.proofs.is_own.Tie as tie
 
-has-start-requires : tie.Need-has-start-requires
-has-start-requires c κs = search needs
-
 returns : tie.Need-returns
 returns c = λ e alike. own-start _ _ _ _ _ _ (c .before .has-start .ensures) e alike (c .if1 .taken)
 
@@ -13,4 +10,4 @@ returns-2 : tie.Need-returns-2
 returns-2 c = λ e alike. own-other _ _ _ _ _ _ (c .before .before .before .before .has-start .ensures) e alike (c .before .before .before .if1 .left)
 
 pub is-own-spec : {M : Type 1} → statement M
-is-own-spec = tie.close (tie.spec has-start-requires returns returns-2)
+is-own-spec = tie.close (tie.spec (λ c κs. search needs) returns returns-2)

@@ -10,17 +10,8 @@ returns c = λ e alike knows. none-between _ _ _ _ _ _ e alike knows (omega arit
 returns-2 : tie.Need-returns-2
 returns-2 c = λ e alike knows. none-between _ _ _ _ _ _ e alike knows (omega arith)
 
-add-low : tie.Need-add-low
-add-low c = search needs
-
-any-reference-requires : tie.Need-any-reference-requires
-any-reference-requires c κs = search needs
-
 returns-3 : tie.Need-returns-3
 returns-3 c = λ e alike knows. reference-between _ _ _ _ _ _ e alike knows _ (c .before .any-reference .ensures) (c .if3 .taken)
-
-any-between-requires : tie.Need-any-between-requires
-any-between-requires c κs = search needs
 
 returns-4 : tie.Need-returns-4
 returns-4 c = λ e alike knows. entry-between _ _ _ _ _ _ e alike knows _ (c .before .before .any-reference .ensures) _ (c .before .if3 .left) (c .any-between .ensures)
@@ -31,8 +22,8 @@ is-referred-spec =
     (tie.spec
     returns
     returns-2
-    add-low
-    any-reference-requires
+    (λ c. search needs)
+    (λ c κs. search needs)
     returns-3
-    any-between-requires
+    (λ c κs. search needs)
     returns-4)

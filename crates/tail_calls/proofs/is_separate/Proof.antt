@@ -9,15 +9,9 @@ returns c = below-start _ _ _ (c .if1 .taken)
 returns-2 : tie.Need-returns-2
 returns-2 c = other-section _ _ _ (c .before .before .if1 .left) (c .if2 .taken)
 
-address-before-requires : tie.Need-address-before-requires
-address-before-requires c κs = search needs
-
-word-requires : tie.Need-word-requires
-word-requires c κs = search needs
-
 returns-3 : tie.Need-returns-3
 returns-3 c = word-before _ _ _ (c .before .before .before .before .before .if1 .left) _ _ (c .before .before .before .if2 .left) (c .before .address-before .ensures) (c .word .ensures)
 
 pub is-separate-spec : {M : Type 1} → statement M
 is-separate-spec =
-    tie.close (tie.spec returns returns-2 address-before-requires word-requires returns-3)
+    tie.close (tie.spec returns returns-2 (λ c κs. search needs) (λ c κs. search needs) returns-3)

@@ -13,26 +13,11 @@ abbrev μ-loop : tie.MeasureT-loop
 loop-holds : tie.Need-loop-holds Inv-loop μ-loop
 loop-holds c = among-first _ _ _ (c .before .pre .0)
 
-add-if1 : tie.Need-add-if1 Inv-loop μ-loop
-add-if1 c = search needs
-
 returns : tie.Need-returns Inv-loop μ-loop
 returns c = among-past _ _ _ _ _ (c .before .before .loop .inv) (c .if1 .taken)
 
-cast-check-prologue-sequence : tie.Need-cast-check-prologue-sequence Inv-loop μ-loop
-cast-check-prologue-sequence c = search needs
-
-check-prologue-sequence-requires : tie.Need-check-prologue-sequence-requires Inv-loop μ-loop
-check-prologue-sequence-requires c κs = search needs
-
 returns-2 : tie.Need-returns-2 Inv-loop μ-loop
 returns-2 c = among-found _ _ _ _ _ (c .before .before .before .before .loop .inv) (c .before .before .before .loop-test .taken) (c .before .before .if1 .left) _ (c .before .check-prologue-sequence .ensures) (c .if2 .taken)
-
-add-at : tie.Need-add-at Inv-loop μ-loop
-add-at c = search needs
-
-sub-left : tie.Need-sub-left Inv-loop μ-loop
-sub-left c = search needs
 
 loop-less : tie.Need-loop-less Inv-loop μ-loop
 loop-less c = omega arith
@@ -50,13 +35,13 @@ prologue-among-spec =
     Inv-loop
     μ-loop
     loop-holds
-    add-if1
+    (λ c. search needs)
     returns
-    cast-check-prologue-sequence
-    check-prologue-sequence-requires
+    (λ c. search needs)
+    (λ c κs. search needs)
     returns-2
-    add-at
-    sub-left
+    (λ c. search needs)
+    (λ c. search needs)
     loop-less
     loop-again
     returns-3)

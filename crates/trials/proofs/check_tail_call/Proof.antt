@@ -11,50 +11,14 @@ use Rattle.trials.proofs.check_tail_call.Tie as tie
 check-before-requires : tie.Need-check-before-requires
 check-before-requires c κs = let l = c .before .before .before .before .before .before .before .before .before .pre .0 in ((bytes-in _ _ _ _ _ _ _ (l .of), l .of .kept), c .before .before .before .before .before .before .before .before .before .pre .1 .0)
 
-enum-told : tie.Need-enum-told
-enum-told c = search needs
-
-answered-requires : tie.Need-answered-requires
-answered-requires c κs = search needs
-
-enum-told-2 : tie.Need-enum-told-2
-enum-told-2 c = search needs
-
-answered-requires-2 : tie.Need-answered-requires-2
-answered-requires-2 c κs = search needs
-
-enum-told-3 : tie.Need-enum-told-3
-enum-told-3 c = search needs
-
-answered-requires-3 : tie.Need-answered-requires-3
-answered-requires-3 c κs = search needs
-
-enum-told-4 : tie.Need-enum-told-4
-enum-told-4 c = search needs
-
-trial-requires : tie.Need-trial-requires
-trial-requires c κs = search needs
-
-same-length : tie.Need-same-length
-same-length c = search needs
-
 returns : tie.Need-returns
 returns c = λ e o q. let p = c .before .before .before .before .before .before .before .before .before .before .before .before .before .pre in decided _ _ _ e _ _ (c .before .before .before .check-before .ensures e (asked-of _ _ _ _ _ _ e o)) Not answers.Not _ (c .before .enum-told .given .1) refl (p .1 .0) (p .1 .1) (c .answered .ensures)
-
-same-length-2 : tie.Need-same-length-2
-same-length-2 c = search needs
 
 returns-2 : tie.Need-returns-2
 returns-2 c = λ e o q. let p = c .before .before .before .before .before .before .before .before .before .before .before .before .before .pre in decided _ _ _ e _ _ (c .before .before .before .check-before .ensures e (asked-of _ _ _ _ _ _ e o)) Is answers.Is _ (c .before .enum-told2 .given .1) refl (p .1 .0) (p .1 .1) (c .answered2 .ensures)
 
-same-length-3 : tie.Need-same-length-3
-same-length-3 c = search needs
-
 returns-3 : tie.Need-returns-3
 returns-3 c = λ e o q. let p = c .before .before .before .before .before .before .before .before .before .before .before .before .before .pre in decided _ _ _ e _ _ (c .before .before .before .check-before .ensures e (asked-of _ _ _ _ _ _ e o)) Possible answers.Possible _ (c .before .enum-told3 .given .1) refl (p .1 .0) (p .1 .1) (c .answered3 .ensures)
-
-same-length-4 : tie.Need-same-length-4
-same-length-4 c = search needs
 
 returns-4 : tie.Need-returns-4
 returns-4 c = λ e o q. tried _ _ _ e _ _ (c .before .before .before .before .before .before .check-before .ensures e (asked-of _ _ _ _ _ _ e o)) _ _ (c .before .before .before .before .enum-told4 .given .1) (c .before .before .trial .ensures e o q)
@@ -64,19 +28,19 @@ check-tail-call-spec =
     tie.close
     (tie.spec
     check-before-requires
-    enum-told
-    answered-requires
-    enum-told-2
-    answered-requires-2
-    enum-told-3
-    answered-requires-3
-    enum-told-4
-    trial-requires
-    same-length
+    (λ c. search needs)
+    (λ c κs. search needs)
+    (λ c. search needs)
+    (λ c κs. search needs)
+    (λ c. search needs)
+    (λ c κs. search needs)
+    (λ c. search needs)
+    (λ c κs. search needs)
+    (λ c. search needs)
     returns
-    same-length-2
+    (λ c. search needs)
     returns-2
-    same-length-3
+    (λ c. search needs)
     returns-3
-    same-length-4
+    (λ c. search needs)
     returns-4)

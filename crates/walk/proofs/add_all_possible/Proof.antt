@@ -17,12 +17,6 @@ abbrev μ-loop : tie.MeasureT-loop
 loop-holds : tie.Need-loop-holds Inv-loop μ-loop
 loop-holds c = doing-first _ _ _ _ _ _ (c .before .before .before .pre .0)
 
-mul-add-possible : tie.Need-mul-add-possible Inv-loop μ-loop
-mul-add-possible c = search needs
-
-shared-slice-read-add-possible : tie.Need-shared-slice-read-add-possible Inv-loop μ-loop
-shared-slice-read-add-possible c = search needs
-
 add-possible-requires : tie.Need-add-possible-requires Inv-loop μ-loop
 add-possible-requires c κs = c .before .before .before .before .loop .inv .going
 
@@ -34,9 +28,6 @@ same-length-2 c = (c .before .before .before .v .given) ∙ (c .before .before .
 
 returns : tie.Need-returns Inv-loop μ-loop
 returns c = λ vis. rw (← adds-each) (stopped-at _ _ _ _ _ _ _ _ _ _ _ _ _ (c .before .before .before .before .before .before .before .before .before .before .before .before .before .before .before .pre .1) (c .before .before .before .before .before .before .before .before .before .before .loop-test .taken) (c .before .before .before .before .before .before .before .before .before .before .before .loop .inv) (c .before .before .before .before .before .before .add-possible .ensures) (c .if1 .taken) vis)
-
-add-i : tie.Need-add-i Inv-loop μ-loop
-add-i c = search needs
 
 loop-less : tie.Need-loop-less Inv-loop μ-loop
 loop-less c = omega arith
@@ -60,13 +51,13 @@ add-all-possible-spec =
     Inv-loop
     μ-loop
     loop-holds
-    mul-add-possible
-    shared-slice-read-add-possible
+    (λ c. search needs)
+    (λ c. search needs)
     add-possible-requires
     same-length
     same-length-2
     returns
-    add-i
+    (λ c. search needs)
     loop-less
     loop-again
     same-length-3

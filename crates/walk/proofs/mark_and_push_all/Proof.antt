@@ -16,12 +16,6 @@ abbrev μ-loop : tie.MeasureT-loop
 loop-holds : tie.Need-loop-holds Inv-loop μ-loop
 loop-holds c = doing-first _ _ _ _ _ _ (c .before .before .before .pre .0)
 
-mul-mark-and-push : tie.Need-mul-mark-and-push Inv-loop μ-loop
-mul-mark-and-push c = search needs
-
-shared-slice-read-mark-and-push : tie.Need-shared-slice-read-mark-and-push Inv-loop μ-loop
-shared-slice-read-mark-and-push c = search needs
-
 mark-and-push-requires : tie.Need-mark-and-push-requires Inv-loop μ-loop
 mark-and-push-requires c κs = c .before .before .before .before .loop .inv .going
 
@@ -33,9 +27,6 @@ same-length-2 c = (c .before .before .before .v .given) ∙ (c .before .before .
 
 returns : tie.Need-returns Inv-loop μ-loop
 returns c = λ vis. rw (← marks-each) (stopped-at _ _ _ _ _ _ _ _ _ _ _ _ _ (c .before .before .before .before .before .before .before .before .before .before .before .before .before .before .before .pre .1) (c .before .before .before .before .before .before .before .before .before .before .loop-test .taken) (c .before .before .before .before .before .before .before .before .before .before .before .loop .inv) (c .before .before .before .before .before .before .mark-and-push .ensures) (c .if1 .taken) vis)
-
-add-i : tie.Need-add-i Inv-loop μ-loop
-add-i c = search needs
 
 loop-less : tie.Need-loop-less Inv-loop μ-loop
 loop-less c = omega arith
@@ -59,13 +50,13 @@ mark-and-push-all-spec =
     Inv-loop
     μ-loop
     loop-holds
-    mul-mark-and-push
-    shared-slice-read-mark-and-push
+    (λ c. search needs)
+    (λ c. search needs)
     mark-and-push-requires
     same-length
     same-length-2
     returns
-    add-i
+    (λ c. search needs)
     loop-less
     loop-again
     same-length-3

@@ -3,14 +3,8 @@ use borrow.Author.Needs.{needs}
 use Rattle.walk.proofs.push.Statement.{statement}
 use Rattle.walk.proofs.push.Tie as tie
 
-push-requires : tie.Need-push-requires
-push-requires c κs = search needs
-
-same-length : tie.Need-same-length
-same-length c = search needs
-
 returns : tie.Need-returns
 returns c = λ vis. pushed vis _ _ _ _ _ _ (c .before .before .before .before .before .before .before .pre) (c .before .before .before .push .ensures)
 
 pub push-spec : {M : Type 1} → statement M
-push-spec = tie.close (tie.spec push-requires same-length returns)
+push-spec = tie.close (tie.spec (λ c κs. search needs) (λ c. search needs) returns)

@@ -11,35 +11,8 @@ Inv-loop numbers₀ bytes₀ s₀ turn₀ numbers bytes s turn = turn ≤ 100000
 abbrev μ-loop : tie.MeasureT-loop
 μ-loop numbers₀ bytes₀ s₀ turn₀ numbers bytes s turn = 1000000 - turn
 
-fresh-requires : tie.Need-fresh-requires Inv-loop μ-loop
-fresh-requires c κs = search needs
-
 loop-holds : tie.Need-loop-holds Inv-loop μ-loop
 loop-holds c = omega arith
-
-buffer-requires : tie.Need-buffer-requires Inv-loop μ-loop
-buffer-requires c κs = search needs
-
-slice-aggregate-read : tie.Need-slice-aggregate-read Inv-loop μ-loop
-slice-aggregate-read c = search needs
-
-read-requires : tie.Need-read-requires Inv-loop μ-loop
-read-requires c κs = search needs
-
-slice-aggregate-count : tie.Need-slice-aggregate-count Inv-loop μ-loop
-slice-aggregate-count c = search needs
-
-count-requires : tie.Need-count-requires Inv-loop μ-loop
-count-requires c κs = search needs
-
-array-share-prefix-space : tie.Need-array-share-prefix-space Inv-loop μ-loop
-array-share-prefix-space c = search needs
-
-slice-aggregate-take-all : tie.Need-slice-aggregate-take-all Inv-loop μ-loop
-slice-aggregate-take-all c = search needs
-
-take-all-requires : tie.Need-take-all-requires Inv-loop μ-loop
-take-all-requires c κs = search needs
 
 add-turn : tie.Need-add-turn Inv-loop μ-loop
 add-turn c = omega arith
@@ -50,9 +23,6 @@ loop-less c = omega arith
 loop-again : tie.Need-loop-again Inv-loop μ-loop
 loop-again c = omega arith
 
-end-input-requires : tie.Need-end-input-requires Inv-loop μ-loop
-end-input-requires c κs = search needs
-
 returns : tie.Need-returns Inv-loop μ-loop
 returns c = search needs
 
@@ -62,18 +32,18 @@ main-spec =
     (tie.spec
     Inv-loop
     μ-loop
-    fresh-requires
+    (λ c κs. search needs)
     loop-holds
-    buffer-requires
-    slice-aggregate-read
-    read-requires
-    slice-aggregate-count
-    count-requires
-    array-share-prefix-space
-    slice-aggregate-take-all
-    take-all-requires
+    (λ c κs. search needs)
+    (λ c. search needs)
+    (λ c κs. search needs)
+    (λ c. search needs)
+    (λ c κs. search needs)
+    (λ c. search needs)
+    (λ c. search needs)
+    (λ c κs. search needs)
     add-turn
     loop-less
     loop-again
-    end-input-requires
+    (λ c κs. search needs)
     returns)

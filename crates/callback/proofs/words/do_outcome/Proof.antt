@@ -7,47 +7,20 @@ use borrow.Author.Needs.{needs}
 use Rattle.callback.proofs.words.do_outcome.Statement.{statement}
 use Rattle.callback.proofs.words.do_outcome.Tie as tie
 
-kind-of-requires : tie.Need-kind-of-requires
-kind-of-requires c κs = search needs
-
 do-go-on-requires : tie.Need-do-go-on-requires
 do-go-on-requires c κs = (c .before .before .before .before .before .before .before .before .before .before .before .pre .1 .0, (c .before .before .before .before .before .before .before .before .before .before .before .pre .1 .1 .0, small-code _ _ _ _ _ _ _ (c .before .before .before .before .before .before .before .before .before .before .before .pre .0 .of)))
-
-same-length : tie.Need-same-length
-same-length c = search needs
-
-same-length-2 : tie.Need-same-length-2
-same-length-2 c = search needs
 
 returns : tie.Need-returns
 returns c = let a = c .before .before .before .before .before .before .before .before .before .before .before .before .before .before .before .before .args in λ e o q. done-go-on e _ _ _ _ _ _ (a .outcome) _ _ _ (kind-go-on (a .outcome) (sym (c .before .before .before .before .before .before .before .before .kind-of .ensures) ∙ c .before .before .before .before .before .before .before .if1 .taken)) (c .before .before .before .before .do-go-on .ensures e (alike _ _ _ _ _ _ e o))
 
-do-illegal-requires : tie.Need-do-illegal-requires
-do-illegal-requires c κs = search needs
-
 returns-2 : tie.Need-returns-2
 returns-2 c = let a = c .before .before .before .before .before .before .before .before .before .before .before .args in λ e o q. done-illegal e _ _ _ _ _ _ (a .outcome) _ _ _ (kind-illegal (a .outcome) (sym (c .before .before .before .kind-of .ensures) ∙ c .before .if2 .taken)) (c .do-illegal .ensures e _ _ _ (c .before .before .before .before .before .before .before .before .before .before .before .pre .1 .0) q)
-
-end-block-requires : tie.Need-end-block-requires
-end-block-requires c κs = search needs
-
-same-length-3 : tie.Need-same-length-3
-same-length-3 c = search needs
-
-same-length-4 : tie.Need-same-length-4
-same-length-4 c = search needs
 
 returns-3 : tie.Need-returns-3
 returns-3 c = let a = c .before .before .before .before .before .before .before .before .before .before .before .before .before .before .before .before .before .before .before .args in λ e o q. done-full e _ _ _ _ _ _ (a .outcome) (kind-ends (a .outcome) (λ z. c .before .before .before .before .before .before .before .before .before .before .if1 .left (c .before .before .before .before .before .before .before .before .before .before .before .kind-of .ensures ∙ z)) (λ z. c .before .before .before .before .before .before .before .before .before .if2 .left (c .before .before .before .before .before .before .before .before .before .before .before .kind-of .ensures ∙ z))) _ _ _ (c .before .before .before .before .before .before .end-block .ensures _) (c .if3 .taken)
 
 after-block-requires : tie.Need-after-block-requires
 after-block-requires c κs = (c .before .before .before .before .before .before .before .before .before .before .before .before .before .before .before .before .before .before .before .before .before .pre .0, (going-on (c .before .before .before .before .before .before .before .before .end-block .ensures (λ _. false)) (c .before .before .if3 .left), (c .before .before .before .before .before .before .before .before .before .before .before .before .before .before .before .before .before .before .before .before .before .pre .1 .1 .0, c .before .before .before .before .before .before .before .before .before .before .before .before .before .before .before .before .before .before .before .before .before .pre .1 .1 .1)))
-
-same-length-5 : tie.Need-same-length-5
-same-length-5 c = search needs
-
-same-length-6 : tie.Need-same-length-6
-same-length-6 c = search needs
 
 returns-4 : tie.Need-returns-4
 returns-4 c = let a = c .before .before .before .before .before .before .before .before .before .before .before .before .before .before .before .before .before .before .before .before .before .before .before .before .before .before .args in λ e o q. done-after e _ _ _ _ _ _ (a .outcome) (kind-ends (a .outcome) (λ z. c .before .before .before .before .before .before .before .before .before .before .before .before .before .before .before .before .before .if1 .left (c .before .before .before .before .before .before .before .before .before .before .before .before .before .before .before .before .before .before .kind-of .ensures ∙ z)) (λ z. c .before .before .before .before .before .before .before .before .before .before .before .before .before .before .before .before .if2 .left (c .before .before .before .before .before .before .before .before .before .before .before .before .before .before .before .before .before .before .kind-of .ensures ∙ z))) _ _ _ (c .before .before .before .before .before .before .before .before .before .before .before .before .before .end-block .ensures _) _ _ _ (c .before .before .before .before .before .before .before .if3 .left) (c .before .before .before .before .after-block .ensures e o q)
@@ -56,18 +29,18 @@ pub do-outcome-spec : {M : Type 1} → statement M
 do-outcome-spec =
     tie.close
     (tie.spec
-    kind-of-requires
+    (λ c κs. search needs)
     do-go-on-requires
-    same-length
-    same-length-2
+    (λ c. search needs)
+    (λ c. search needs)
     returns
-    do-illegal-requires
+    (λ c κs. search needs)
     returns-2
-    end-block-requires
-    same-length-3
-    same-length-4
+    (λ c κs. search needs)
+    (λ c. search needs)
+    (λ c. search needs)
     returns-3
     after-block-requires
-    same-length-5
-    same-length-6
+    (λ c. search needs)
+    (λ c. search needs)
     returns-4)

@@ -12,12 +12,6 @@ word-in-requires c κs = (bytes-in _ _ _ _ _ _ _ (c .before .before .before .bef
 meet-word-requires : tie.Need-meet-word-requires
 meet-word-requires c κs = (record { around = c .before .before .before .before .before .before .before .before .before .before .before .before .pre .0 .around; of = c .before .before .before .before .before .before .before .before .before .before .before .before .pre .0 .of; is-word = word-of _ _ _ _ _ _ _ (c .before .before .before .before .before .before .before .before .before .before .before .before .pre .0 .of) _ _ (c .before .before .word-in .ensures); is-told = told-of _ _ _ _ _ _ _ (c .before .before .before .before .before .before .before .before .before .before .before .before .pre .0 .of) _ _ (c .before .before .before .told-at .result) (c .before .before .before .before .before .before .before .before .before .before .before .before .pre .0 .outcomes) (c .before .before .before .told-at .ensures) }, (c .before .before .before .before .before .before .before .before .before .before .before .before .pre .1 .0, c .before .before .before .before .before .before .before .before .before .before .before .before .pre .1 .1))
 
-same-length : tie.Need-same-length
-same-length c = search needs
-
-same-length-2 : tie.Need-same-length-2
-same-length-2 c = search needs
-
 returns : tie.Need-returns
 returns c = λ e o q. c .before .before .before .before .meet-word .ensures e o (word-of _ _ _ _ _ _ e o _ _ (c .before .before .before .before .before .before .before .word-in .ensures)) (told-of _ _ _ _ _ _ e o _ _ (c .before .before .before .before .before .before .before .before .told-at .result) q (c .before .before .before .before .before .before .before .before .told-at .ensures))
 
@@ -28,6 +22,6 @@ instruction-callback-spec =
     told-at-requires
     word-in-requires
     meet-word-requires
-    same-length
-    same-length-2
+    (λ c. search needs)
+    (λ c. search needs)
     returns)

@@ -3,11 +3,8 @@ use borrow.Author.Needs.{needs}
 use Rattle.callback.proofs.words.is_plain.Statement.{statement}
 use Rattle.callback.proofs.words.is_plain.Tie as tie
 
-opcode-requires : tie.Need-opcode-requires
-opcode-requires c κs = search needs
-
 returns : tie.Need-returns
 returns c = plain-by _ _ (c .opcode .ensures)
 
 pub is-plain-spec : {M : Type 1} → statement M
-is-plain-spec = tie.close (tie.spec opcode-requires returns)
+is-plain-spec = tie.close (tie.spec (λ c κs. search needs) returns)

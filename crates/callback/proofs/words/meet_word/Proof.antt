@@ -12,32 +12,8 @@ note-requires c κs = let p = c .before .before .before .before .before .before 
 is-stopped-requires : tie.Need-is-stopped-requires
 is-stopped-requires c κs = let p = c .before .before .before .before .before .before .before .before .before .before .before .before .before .before .before .before .pre in let a = c .before .before .before .before .before .before .before .before .before .before .before .before .before .before .before .before .args in (p .0 .of .kept, (noted-of _ _ _ _ _ _ _ (p .0 .of) _ _ (a .told) (p .0 .is-word) (p .0 .is-told) _ _ _ _ _ _ (c .before .before .before .before .before .before .note .ensures)) .fit)
 
-first-test-requires : tie.Need-first-test-requires
-first-test-requires c κs = search needs
-
-with-fault-requires : tie.Need-with-fault-requires
-with-fault-requires c κs = search needs
-
-same-length : tie.Need-same-length
-same-length c = search needs
-
-same-length-2 : tie.Need-same-length-2
-same-length-2 c = search needs
-
 returns : tie.Need-returns
 returns c = let a = c .before .before .before .before .before .before .before .before .before .before .before .before .before .before .before .before .before .before .before .before .args in λ e o q h. word-fails e _ _ _ _ _ _ _ _ _ (noted-of _ _ _ _ _ _ e o _ _ (a .told) q h _ _ _ _ _ _ (c .before .before .before .before .before .before .before .before .before .before .note .ensures)) _ (c .before .before .before .is-stopped .ensures e (o .knows) (o .start)) _ (c .before .before .first-test .ensures) _ (c .before .if1 .taken) (c .with-fault .ensures)
-
-with-small-requires : tie.Need-with-small-requires
-with-small-requires c κs = search needs
-
-met-nothing-requires : tie.Need-met-nothing-requires
-met-nothing-requires c κs = search needs
-
-same-length-3 : tie.Need-same-length-3
-same-length-3 c = search needs
-
-same-length-4 : tie.Need-same-length-4
-same-length-4 c = search needs
 
 returns-2 : tie.Need-returns-2
 returns-2 c = let a = c .before .before .before .before .before .before .before .before .before .before .before .before .before .before .before .before .before .before .before .before .before .before .args in λ e o q h. word-nowhere e _ _ _ _ _ _ _ _ _ (noted-of _ _ _ _ _ _ e o _ _ (a .told) q h _ _ _ _ _ _ (c .before .before .before .before .before .before .before .before .before .before .before .before .note .ensures)) _ (c .before .before .before .before .before .is-stopped .ensures e (o .knows) (o .start)) _ (c .before .before .before .before .first-test .ensures) (c .before .before .before .if1 .left) _ (c .before .before .with-small .ensures) _ (c .before .if2 .taken) (c .before .before .before .before .before .before .before .before .before .before .before .before .before .before .before .before .before .before .before .before .before .before .pre .1 .0) (c .met-nothing .ensures)
@@ -60,15 +36,15 @@ meet-word-spec =
     (tie.spec
     note-requires
     is-stopped-requires
-    first-test-requires
-    with-fault-requires
-    same-length
-    same-length-2
+    (λ c κs. search needs)
+    (λ c κs. search needs)
+    (λ c. search needs)
+    (λ c. search needs)
     returns
-    with-small-requires
-    met-nothing-requires
-    same-length-3
-    same-length-4
+    (λ c κs. search needs)
+    (λ c κs. search needs)
+    (λ c. search needs)
+    (λ c. search needs)
     returns-2
     do-outcome-requires
     same-length-5

@@ -3,20 +3,8 @@ use borrow.Author.Needs.{needs}
 use Rattle.callback.proofs.words.note_word.Statement.{statement}
 use Rattle.callback.proofs.words.note_word.Tie as tie
 
-is-conditional-blr-requires : tie.Need-is-conditional-blr-requires
-is-conditional-blr-requires c κs = search needs
-
-is-rfi-requires : tie.Need-is-rfi-requires
-is-rfi-requires c κs = search needs
-
 discard-possible-requires : tie.Need-discard-possible-requires
 discard-possible-requires c κs = (fits-still _ _ _ _ _ (c .before .before .before .before .before .before .before .before .pre .0), c .before .before .before .before .before .before .before .before .pre .1)
-
-same-length : tie.Need-same-length
-same-length c = search needs
-
-same-length-2 : tie.Need-same-length-2
-same-length-2 c = search needs
 
 returns : tie.Need-returns
 returns c = ((c .before .before .before .before .discard-possible .ensures .told .fit, c .before .before .before .before .discard-possible .ensures .told .fine), λ im q. noted _ _ _ im _ _ _ _ _ _ _ (c .before .before .before .before .before .before .before .before .before .before .is-conditional-blr .ensures) (c .before .before .before .before .before .before .before .before .is-rfi .ensures) q (c .before .before .before .before .discard-possible .ensures))
@@ -25,9 +13,9 @@ pub note-word-spec : {M : Type 1} → statement M
 note-word-spec =
     tie.close
     (tie.spec
-    is-conditional-blr-requires
-    is-rfi-requires
+    (λ c κs. search needs)
+    (λ c κs. search needs)
     discard-possible-requires
-    same-length
-    same-length-2
+    (λ c. search needs)
+    (λ c. search needs)
     returns)

@@ -4,9 +4,6 @@ use borrow.Author.Needs.{needs}
 use Rattle.callback_around.proofs.around.is_known_function.Statement.{statement}
 use Rattle.callback_around.proofs.around.is_known_function.Tie as tie
 
-known-function-requires : tie.Need-known-function-requires
-known-function-requires c κs = search needs
-
 returns : tie.Need-returns
 returns c = λ e knows q. known-none e _ _ _ (c .before .known-function .ensures e knows) (c .if1 .taken)
 
@@ -14,4 +11,4 @@ returns-2 : tie.Need-returns-2
 returns-2 c = λ e knows q. known-some e _ _ _ _ _ q (c .before .known-function .ensures e knows) (c .if1 .left) refl
 
 pub is-known-function-spec : {M : Type 1} → statement M
-is-known-function-spec = tie.close (tie.spec known-function-requires returns returns-2)
+is-known-function-spec = tie.close (tie.spec (λ c κs. search needs) returns returns-2)

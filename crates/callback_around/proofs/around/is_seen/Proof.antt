@@ -4,15 +4,6 @@ use borrow.Author.Needs.{needs}
 use Rattle.callback_around.proofs.around.is_seen.Statement.{statement}
 use Rattle.callback_around.proofs.around.is_seen.Tie as tie
 
-cast-a : tie.Need-cast-a
-cast-a c = search needs
-
-cast-seen : tie.Need-cast-seen
-cast-seen c = search needs
-
-seen-requires : tie.Need-seen-requires
-seen-requires c κs = search needs
-
 returns : tie.Need-returns
 returns c = λ im code. seen-here _ _ _ im code (c .before .before .before .before .before .before .if1 .taken) _ refl _ (c .before .before .before .before .if2 .taken) (c .before .if3 .taken) (c .seen .ensures)
 
@@ -27,4 +18,4 @@ returns-4 c = λ im code. seen-elsewhere _ _ _ im code (c .if1 .left)
 
 pub is-seen-spec : {M : Type 1} → statement M
 is-seen-spec =
-    tie.close (tie.spec cast-a cast-seen seen-requires returns returns-2 returns-3 returns-4)
+    tie.close (tie.spec (λ c. search needs) (λ c. search needs) (λ c κs. search needs) returns returns-2 returns-3 returns-4)

@@ -5,35 +5,8 @@ use borrow.Author.Needs.{needs}
 use Rattle.callback_branches.proofs.branches.branch_to.Statement.{statement}
 use Rattle.callback_branches.proofs.branches.branch_to.Tie as tie
 
-enum-told : tie.Need-enum-told
-enum-told c = search needs
-
-enum-known-to : tie.Need-enum-known-to
-enum-known-to c = search needs
-
-locate-requires : tie.Need-locate-requires
-locate-requires c κs = search needs
-
-do-branch-requires : tie.Need-do-branch-requires
-do-branch-requires c κs = search needs
-
-enum-told-2 : tie.Need-enum-told-2
-enum-told-2 c = search needs
-
-with-fault-requires : tie.Need-with-fault-requires
-with-fault-requires c κs = search needs
-
-enum-told-3 : tie.Need-enum-told-3
-enum-told-3 c = search needs
-
 returns : tie.Need-returns
 returns c = let a = c .before .before .before .before .before .before .before .args in ((λ z. c .before .before .before .before .before .before .before .pre .1 .1 .1 .fits), λ l e vis out s f code i alike knows. no-branch e vis _ _ _ (c .before .before .before .before .before .before .before .pre .1 .1 .1) (a .branch) out (c .enum-told .given .1))
-
-same-length : tie.Need-same-length
-same-length c = search needs
-
-same-length-2 : tie.Need-same-length-2
-same-length-2 c = search needs
 
 returns-2 : tie.Need-returns-2
 returns-2 c = let a = c .before .before .before .before .before .before .before .before .before .before .before .before .before .before .before .before .args in (c .before .before .before .before .do-branch .ensures .0, λ l e vis out s f code i alike knows. branch-there e vis _ _ _ (c .before .before .before .before .before .before .before .before .before .before .before .before .before .before .before .before .pre .1 .1 .1) (a .branch) out _ _ _ _ _ l i (c .before .before .before .before .before .before .before .before .before .to .given .1) (c .before .before .before .before .before .before .before .locate .ensures l s) (c .before .before .before .before .do-branch .ensures .1 l e vis out f code i alike knows))
@@ -48,16 +21,16 @@ pub branch-to-spec : {M : Type 1} → statement M
 branch-to-spec =
     tie.close
     (tie.spec
-    enum-told
-    enum-known-to
-    locate-requires
-    do-branch-requires
-    enum-told-2
-    with-fault-requires
-    enum-told-3
+    (λ c. search needs)
+    (λ c. search needs)
+    (λ c κs. search needs)
+    (λ c κs. search needs)
+    (λ c. search needs)
+    (λ c κs. search needs)
+    (λ c. search needs)
     returns
-    same-length
-    same-length-2
+    (λ c. search needs)
+    (λ c. search needs)
     returns-2
     returns-3
     returns-4)

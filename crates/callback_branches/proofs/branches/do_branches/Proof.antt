@@ -4,26 +4,11 @@ use borrow.Author.Needs.{needs}
 use Rattle.callback_branches.proofs.branches.do_branches.Statement.{statement}
 use Rattle.callback_branches.proofs.branches.do_branches.Tie as tie
 
-branch-to-requires : tie.Need-branch-to-requires
-branch-to-requires c κs = search needs
-
-same-length : tie.Need-same-length
-same-length c = search needs
-
-same-length-2 : tie.Need-same-length-2
-same-length-2 c = search needs
-
 returns : tie.Need-returns
 returns c = let a = c .before .before .before .before .before .before .before .before .before .before .before .before .before .before .before .args in λ l e vis s f code i alike knows. first-fails e vis (a .k .now) (a .v .now) _ _ (a .w) (a .addr) (a .first) (a .second) _ (λ out. c .before .before .before .before .before .before .before .branch-to .ensures .1 l e vis out s f code i alike knows) (c .if1 .taken)
 
 branch-to-requires-2 : tie.Need-branch-to-requires-2
 branch-to-requires-2 c κs = (c .before .before .before .before .before .before .before .before .before .before .before .before .before .before .before .before .before .pre .0, (c .before .before .before .before .before .before .before .before .before .before .before .before .before .before .before .before .before .pre .1 .0, (c .before .before .before .before .before .before .before .before .before .before .before .before .before .before .before .before .before .pre .1 .1 .0, going-branch _ _ _ (c .before .before .before .before .before .before .before .before .before .branch-to .ensures .0) (c .before .before .if1 .left))))
-
-same-length-3 : tie.Need-same-length-3
-same-length-3 c = search needs
-
-same-length-4 : tie.Need-same-length-4
-same-length-4 c = search needs
 
 returns-2 : tie.Need-returns-2
 returns-2 c = let a = c .before .before .before .before .before .before .before .before .before .before .before .before .before .before .before .before .before .before .before .before .before .before .before .before .before .args in λ l e vis s f code i alike knows. second-fails e vis (a .k .now) (a .v .now) _ _ (a .w) (a .addr) (a .first) (a .second) _ (λ out. c .before .before .before .before .before .before .before .before .before .before .before .before .before .before .before .before .before .branch-to .ensures .1 l e vis out s f code i alike knows) (c .before .before .before .before .before .before .before .before .before .before .if1 .left) _ _ _ (λ out. c .before .before .before .before .before .before .before .branch-to2 .ensures .1 l e vis out s f code i alike knows) (c .if2 .taken)
@@ -44,13 +29,13 @@ pub do-branches-spec : {M : Type 1} → statement M
 do-branches-spec =
     tie.close
     (tie.spec
-    branch-to-requires
-    same-length
-    same-length-2
+    (λ c κs. search needs)
+    (λ c. search needs)
+    (λ c. search needs)
     returns
     branch-to-requires-2
-    same-length-3
-    same-length-4
+    (λ c. search needs)
+    (λ c. search needs)
     returns-2
     set-ways-requires
     same-length-5

@@ -3,17 +3,8 @@ use borrow.Author.Needs.{needs}
 use Rattle.callback_branches.proofs.branches.refers_to.Statement.{statement}
 use Rattle.callback_branches.proofs.branches.refers_to.Tie as tie
 
-is-known-function-requires : tie.Need-is-known-function-requires
-is-known-function-requires c κs = search needs
-
-known-function-requires : tie.Need-known-function-requires
-known-function-requires c κs = search needs
-
 returns : tie.Need-returns
 returns c = λ l e f code i alike knows. refers-known e _ _ _ _ (c .before .before .is-known-function .ensures e knows (alike .start)) _ (c .before .if1 .taken) (c .known-function .ensures e knows)
-
-linked-function-requires : tie.Need-linked-function-requires
-linked-function-requires c κs = search needs
 
 returns-2 : tie.Need-returns-2
 returns-2 c = λ l e f code i alike knows. refers-linked e _ _ _ _ (c .before .before .before .is-known-function .ensures e knows (alike .start)) _ (c .before .before .if1 .left) (c .before .if2 .taken) (c .linked-function .ensures l e f code i)
@@ -25,9 +16,9 @@ pub refers-to-spec : {M : Type 1} → statement M
 refers-to-spec =
     tie.close
     (tie.spec
-    is-known-function-requires
-    known-function-requires
+    (λ c κs. search needs)
+    (λ c κs. search needs)
     returns
-    linked-function-requires
+    (λ c κs. search needs)
     returns-2
     returns-3)

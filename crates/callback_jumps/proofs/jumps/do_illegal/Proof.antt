@@ -3,21 +3,12 @@ use borrow.Author.Needs.{needs}
 use Rattle.callback_jumps.proofs.jumps.do_illegal.Statement.{statement}
 use Rattle.callback_jumps.proofs.jumps.do_illegal.Tie as tie
 
-met-nothing-requires : tie.Need-met-nothing-requires
-met-nothing-requires c κs = search needs
-
 returns : tie.Need-returns
 returns c = λ e vis k v g q. zero-word e vis k v _ g _ _ _ q _ (c .before .if1 .taken) (c .met-nothing .ensures)
-
-add-go-to : tie.Need-add-go-to
-add-go-to c = search needs
-
-go-to-requires : tie.Need-go-to-requires
-go-to-requires c κs = search needs
 
 returns-2 : tie.Need-returns-2
 returns-2 c = λ e vis k v g q. other-word e vis k v _ g _ _ _ q _ (c .before .if1 .left) (c .before .before .pre) (c .go-to .ensures)
 
 pub do-illegal-spec : {M : Type 1} → statement M
 do-illegal-spec =
-    tie.close (tie.spec met-nothing-requires returns add-go-to go-to-requires returns-2)
+    tie.close (tie.spec (λ c κs. search needs) returns (λ c. search needs) (λ c κs. search needs) returns-2)

@@ -5,35 +5,14 @@ use borrow.Author.Needs.{needs}
 use Rattle.callback_jumps.proofs.jumps.do_jump.Statement.{statement}
 use Rattle.callback_jumps.proofs.jumps.do_jump.Tie as tie
 
-set-way-requires : tie.Need-set-way-requires
-set-way-requires c κs = search needs
-
-same-length : tie.Need-same-length
-same-length c = search needs
-
-same-length-2 : tie.Need-same-length-2
-same-length-2 c = search needs
-
 returns : tie.Need-returns
 returns c = λ e alike knows q. jump-full _ _ _ _ e _ _ _ _ _ (c .before .before .before .before .before .before .set-way .ensures _) (c .if1 .taken)
-
-same-length-3 : tie.Need-same-length-3
-same-length-3 c = search needs
-
-same-length-4 : tie.Need-same-length-4
-same-length-4 c = search needs
 
 returns-2 : tie.Need-returns-2
 returns-2 c = λ e alike knows q. jump-own _ _ _ _ e _ _ _ _ _ (c .before .before .before .before .before .before .before .set-way .ensures _) (c .before .if1 .left) (c .if2 .taken)
 
 do-jump-elsewhere-requires : tie.Need-do-jump-elsewhere-requires
 do-jump-elsewhere-requires c κs = (c .before .before .before .before .before .before .before .before .before .before .before .before .before .before .before .pre .0, (going-on (c .before .before .before .before .before .before .before .before .before .set-way .ensures (λ _. false)) (c .before .before .before .if1 .left), (c .before .before .before .before .before .before .before .before .before .before .before .before .before .before .before .pre .1 .1 .0, c .before .before .before .before .before .before .before .before .before .before .before .before .before .before .before .pre .1 .1 .1)))
-
-same-length-5 : tie.Need-same-length-5
-same-length-5 c = search needs
-
-same-length-6 : tie.Need-same-length-6
-same-length-6 c = search needs
 
 returns-3 : tie.Need-returns-3
 returns-3 c = λ e alike knows q. jump-other _ _ _ _ e _ _ _ _ _ (c .before .before .before .before .before .before .before .before .before .before .before .before .before .before .set-way .ensures _) _ _ _ (c .before .before .before .before .before .before .before .before .if1 .left) (c .before .before .before .before .before .before .before .if2 .left) (c .before .before .before .before .do-jump-elsewhere .ensures e alike knows q)
@@ -42,14 +21,14 @@ pub do-jump-spec : {M : Type 1} → statement M
 do-jump-spec =
     tie.close
     (tie.spec
-    set-way-requires
-    same-length
-    same-length-2
+    (λ c κs. search needs)
+    (λ c. search needs)
+    (λ c. search needs)
     returns
-    same-length-3
-    same-length-4
+    (λ c. search needs)
+    (λ c. search needs)
     returns-2
     do-jump-elsewhere-requires
-    same-length-5
-    same-length-6
+    (λ c. search needs)
+    (λ c. search needs)
     returns-3)

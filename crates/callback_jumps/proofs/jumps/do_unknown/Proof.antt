@@ -11,29 +11,11 @@ returns c = λ e vis. no-prologue e vis _ _ _ (c .before .before .before .before
 returns-2 : tie.Need-returns-2
 returns-2 c = λ e vis. some-epilogue e vis _ _ _ (c .before .before .before .before .before .before .pre .0) _ (c .before .before .if1 .left) (c .if2 .taken)
 
-add-next : tie.Need-add-next
-add-next c = search needs
-
-set-way-requires : tie.Need-set-way-requires
-set-way-requires c κs = search needs
-
-same-length : tie.Need-same-length
-same-length c = search needs
-
-same-length-2 : tie.Need-same-length-2
-same-length-2 c = search needs
-
 returns-3 : tie.Need-returns-3
 returns-3 c = λ e vis. unknown-full e vis _ _ _ (c .before .before .before .before .before .before .before .before .before .before .before .before .before .before .before .pre .0) _ (c .before .before .before .before .before .before .before .before .before .before .before .if1 .left) (c .before .before .before .before .before .before .before .before .before .if2 .left) _ _ _ (c .before .before .before .before .before .before .set-way .ensures vis) (c .if3 .taken)
 
 mark-and-push-requires : tie.Need-mark-and-push-requires
 mark-and-push-requires c κs = going-on (c .before .before .before .before .before .before .before .before .set-way .ensures (λ _. false)) (c .before .before .if3 .left)
-
-same-length-3 : tie.Need-same-length-3
-same-length-3 c = search needs
-
-same-length-4 : tie.Need-same-length-4
-same-length-4 c = search needs
 
 returns-4 : tie.Need-returns-4
 returns-4 c = λ e vis. unknown-on e vis _ _ _ (c .before .before .before .before .before .before .before .before .before .before .before .before .before .before .before .before .before .before .before .before .before .before .pre .0) _ (c .before .before .before .before .before .before .before .before .before .before .before .before .before .before .before .before .before .before .if1 .left) (c .before .before .before .before .before .before .before .before .before .before .before .before .before .before .before .before .if2 .left) _ _ _ (c .before .before .before .before .before .before .before .before .before .before .before .before .before .set-way .ensures vis) _ _ _ (c .before .before .before .before .before .before .before .if3 .left) (c .before .before .before .before .mark-and-push .ensures vis)
@@ -44,12 +26,12 @@ do-unknown-spec =
     (tie.spec
     returns
     returns-2
-    add-next
-    set-way-requires
-    same-length
-    same-length-2
+    (λ c. search needs)
+    (λ c κs. search needs)
+    (λ c. search needs)
+    (λ c. search needs)
     returns-3
     mark-and-push-requires
-    same-length-3
-    same-length-4
+    (λ c. search needs)
+    (λ c. search needs)
     returns-4)

@@ -4,17 +4,11 @@ use borrow.Author.Needs.{needs}
 use Rattle.callback_jumps.proofs.jumps.is_met.Statement.{statement}
 use Rattle.callback_jumps.proofs.jumps.is_met.Tie as tie
 
-is-seen-requires : tie.Need-is-seen-requires
-is-seen-requires c κs = search needs
-
 returns : tie.Need-returns
 returns c = λ e code. met-seen e _ _ _ _ _ _ (c .before .is-seen .ensures _ code) (c .if1 .taken)
-
-has-start-requires : tie.Need-has-start-requires
-has-start-requires c κs = search needs
 
 returns-2 : tie.Need-returns-2
 returns-2 c = λ e code. met-start e _ _ _ _ _ _ _ (c .before .before .is-seen .ensures _ code) (c .before .if1 .left) (c .has-start .ensures)
 
 pub is-met-spec : {M : Type 1} → statement M
-is-met-spec = tie.close (tie.spec is-seen-requires returns has-start-requires returns-2)
+is-met-spec = tie.close (tie.spec (λ c κs. search needs) returns (λ c κs. search needs) returns-2)

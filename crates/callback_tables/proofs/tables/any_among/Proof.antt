@@ -20,20 +20,8 @@ abbrev μ-loop : tie.MeasureT-loop
 loop-holds : tie.Need-loop-holds Inv-loop μ-loop
 loop-holds c = (omega arith, refl)
 
-mul-is-among : tie.Need-mul-is-among Inv-loop μ-loop
-mul-is-among c = search needs
-
-shared-slice-read-is-among : tie.Need-shared-slice-read-is-among Inv-loop μ-loop
-shared-slice-read-is-among c = search needs
-
-is-among-requires : tie.Need-is-among-requires Inv-loop μ-loop
-is-among-requires c κs = search needs
-
 returns : tie.Need-returns Inv-loop μ-loop
 returns c = let a = c .before .before .before .before .before .before .args in any-here (λ t. ltb (a .start) t && (leb t (a .last) || leb t (a .next))) (a .entries .now) (a .n) (c .before .before .before .before .before .before .pre) (c .before .before .before .before .loop .i) (omega arith) (sym (c .before .is-among .ensures) ∙ c .if1 .taken) (c .before .before .before .before .loop .inv .1)
-
-add-i : tie.Need-add-i Inv-loop μ-loop
-add-i c = search needs
 
 loop-less : tie.Need-loop-less Inv-loop μ-loop
 loop-less c = omega arith
@@ -51,11 +39,11 @@ any-among-spec =
     Inv-loop
     μ-loop
     loop-holds
-    mul-is-among
-    shared-slice-read-is-among
-    is-among-requires
+    (λ c. search needs)
+    (λ c. search needs)
+    (λ c κs. search needs)
     returns
-    add-i
+    (λ c. search needs)
     loop-less
     loop-again
     returns-2)

@@ -21,20 +21,8 @@ abbrev μ-loop : tie.MeasureT-loop
 loop-holds : tie.Need-loop-holds Inv-loop μ-loop
 loop-holds c = (omega arith, λ e knows q. refl)
 
-mul-is-known-function : tie.Need-mul-is-known-function Inv-loop μ-loop
-mul-is-known-function c = search needs
-
-shared-slice-read-is-known-function : tie.Need-shared-slice-read-is-known-function Inv-loop μ-loop
-shared-slice-read-is-known-function c = search needs
-
-is-known-function-requires : tie.Need-is-known-function-requires Inv-loop μ-loop
-is-known-function-requires c κs = search needs
-
 returns : tie.Need-returns Inv-loop μ-loop
 returns c = let a = c .before .before .before .before .before .before .before .before .before .args in λ e knows q. any-here (rules.is-known-function e (view (a .k .now) (a .v .now) (a .s))) (a .entries .now) (a .n) (c .before .before .before .before .before .before .before .before .before .pre .0) (c .before .before .before .before .loop .i) (omega arith) (sym (c .before .is-known-function .ensures e knows q) ∙ c .if1 .taken) (c .before .before .before .before .loop .inv .1 e knows q)
-
-add-i : tie.Need-add-i Inv-loop μ-loop
-add-i c = search needs
 
 loop-less : tie.Need-loop-less Inv-loop μ-loop
 loop-less c = omega arith
@@ -52,11 +40,11 @@ any-known-spec =
     Inv-loop
     μ-loop
     loop-holds
-    mul-is-known-function
-    shared-slice-read-is-known-function
-    is-known-function-requires
+    (λ c. search needs)
+    (λ c. search needs)
+    (λ c κs. search needs)
     returns
-    add-i
+    (λ c. search needs)
     loop-less
     loop-again
     returns-2)

@@ -6,29 +6,11 @@ use borrow.Author.Needs.{needs}
 use Rattle.callback_tables.proofs.tables.do_own_table.Statement.{statement}
 use Rattle.callback_tables.proofs.tables.do_own_table.Tie as tie
 
-wide-requires : tie.Need-wide-requires
-wide-requires c κs = search needs
-
-set-table-requires : tie.Need-set-table-requires
-set-table-requires c κs = search needs
-
-same-length : tie.Need-same-length
-same-length c = search needs
-
-same-length-2 : tie.Need-same-length-2
-same-length-2 c = search needs
-
 returns : tie.Need-returns
 returns c = λ e vis. tables-full e vis _ _ _ _ _ _ _ _ (c .before .before .before .before .before .before .before .wide .ensures .0) _ _ _ (c .before .before .before .before .before .before .set-table .ensures vis) (c .if1 .taken)
 
 mark-and-push-all-requires : tie.Need-mark-and-push-all-requires
 mark-and-push-all-requires c κs = (going-on (c .before .before .before .before .before .before .before .before .set-table .ensures (λ _. false)) (c .before .before .if1 .left), c .before .before .before .before .before .before .before .before .before .before .before .before .before .before .before .pre .1 .1)
-
-same-length-3 : tie.Need-same-length-3
-same-length-3 c = search needs
-
-same-length-4 : tie.Need-same-length-4
-same-length-4 c = search needs
 
 returns-2 : tie.Need-returns-2
 returns-2 c = λ e vis. blocks-full e vis _ _ _ _ _ _ _ _ (c .before .before .before .before .before .before .before .before .before .before .before .before .before .before .before .before .wide .ensures .0) _ _ _ (c .before .before .before .before .before .before .before .before .before .before .before .before .before .before .before .set-table .ensures vis) (c .before .before .before .before .before .before .before .before .before .if1 .left) _ _ _ (c .before .before .before .before .before .before .mark-and-push-all .ensures vis) (c .if2 .taken)
@@ -49,14 +31,14 @@ pub do-own-table-spec : {M : Type 1} → statement M
 do-own-table-spec =
     tie.close
     (tie.spec
-    wide-requires
-    set-table-requires
-    same-length
-    same-length-2
+    (λ c κs. search needs)
+    (λ c κs. search needs)
+    (λ c. search needs)
+    (λ c. search needs)
     returns
     mark-and-push-all-requires
-    same-length-3
-    same-length-4
+    (λ c. search needs)
+    (λ c. search needs)
     returns-2
     set-ways-requires
     same-length-5

@@ -3,18 +3,6 @@ use borrow.Author.Needs.{needs}
 use Rattle.callback_tables.proofs.tables.is_own_table.Statement.{statement}
 use Rattle.callback_tables.proofs.tables.is_own_table.Tie as tie
 
-last-start-requires : tie.Need-last-start-requires
-last-start-requires c κs = search needs
-
-add-any-among : tie.Need-add-any-among
-add-any-among c = search needs
-
-any-among-requires : tie.Need-any-among-requires
-any-among-requires c κs = search needs
-
-any-known-requires : tie.Need-any-known-requires
-any-known-requires c κs = search needs
-
 returns : tie.Need-returns
 returns c = (never, λ e alike knows. others-table e _ alike _ _ _ _ (c .before .before .before .before .last-start .ensures) _ (c .before .before .before .any-among .ensures) _ (c .before .any-known .ensures e knows (alike .start)) (c .before .before .if1 .taken) (c .if2 .taken))
 
@@ -28,10 +16,10 @@ pub is-own-table-spec : {M : Type 1} → statement M
 is-own-table-spec =
     tie.close
     (tie.spec
-    last-start-requires
-    add-any-among
-    any-among-requires
-    any-known-requires
+    (λ c κs. search needs)
+    (λ c. search needs)
+    (λ c κs. search needs)
+    (λ c κs. search needs)
     returns
     returns-2
     returns-3)

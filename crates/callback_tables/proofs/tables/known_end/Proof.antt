@@ -3,9 +3,6 @@ use borrow.Author.Needs.{needs}
 use Rattle.callback_tables.proofs.tables.known_end.Statement.{statement}
 use Rattle.callback_tables.proofs.tables.known_end.Tie as tie
 
-last-end-requires : tie.Need-last-end-requires
-last-end-requires c κs = search needs
-
 returns : tie.Need-returns
 returns c = λ e alike. end-by-blocks e _ alike _ _ (c .before .if1 .taken) (c .last-end .ensures)
 
@@ -13,4 +10,4 @@ returns-2 : tie.Need-returns-2
 returns-2 c = λ e alike. end-known e _ alike _ (c .if1 .left)
 
 pub known-end-spec : {M : Type 1} → statement M
-known-end-spec = tie.close (tie.spec last-end-requires returns returns-2)
+known-end-spec = tie.close (tie.spec (λ c κs. search needs) returns returns-2)

@@ -39,9 +39,6 @@ mul-wide c = omega arith
 shared-slice-read-wide : tie.Need-shared-slice-read-wide Inv-loop μ-loop
 shared-slice-read-wide c = omega arith
 
-wide-requires : tie.Need-wide-requires Inv-loop μ-loop
-wide-requires c κs = search needs
-
 add-known : tie.Need-add-known Inv-loop μ-loop
 add-known c = omega arith
 
@@ -60,20 +57,8 @@ loop-less c = omega arith
 loop-again : tie.Need-loop-again Inv-loop μ-loop
 loop-again c = omega arith
 
-locate-requires : tie.Need-locate-requires Inv-loop μ-loop
-locate-requires c κs = search needs
-
-wrapping-add-u64-requires : tie.Need-wrapping-add-u64-requires Inv-loop μ-loop
-wrapping-add-u64-requires c κs = search needs
-
 returns : tie.Need-returns Inv-loop μ-loop
 returns c = search needs
-
-locate-requires-2 : tie.Need-locate-requires-2 Inv-loop μ-loop
-locate-requires-2 c κs = search needs
-
-wrapping-add-u64-requires-2 : tie.Need-wrapping-add-u64-requires-2 Inv-loop μ-loop
-wrapping-add-u64-requires-2 c κs = search needs
 
 returns-2 : tie.Need-returns-2 Inv-loop μ-loop
 returns-2 c = search needs
@@ -93,16 +78,16 @@ bounds-of-spec =
     add-wide
     mul-wide
     shared-slice-read-wide
-    wide-requires
+    (λ c κs. search needs)
     add-known
     mul-known
     shared-slice-read-known
     add-at
     loop-less
     loop-again
-    locate-requires
-    wrapping-add-u64-requires
+    (λ c κs. search needs)
+    (λ c κs. search needs)
     returns
-    locate-requires-2
-    wrapping-add-u64-requires-2
+    (λ c κs. search needs)
+    (λ c κs. search needs)
     returns-2)

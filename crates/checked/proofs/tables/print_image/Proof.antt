@@ -4,21 +4,6 @@ use Rattle.checked.proofs.Passing.{passing}
 use Rattle.checked.proofs.tables.print_image.Statement.{statement}
 use Rattle.checked.proofs.tables.print_image.Tie as tie
 
-check-requires : tie.Need-check-requires
-check-requires c κs = search needs
-
-wide-requires : tie.Need-wide-requires
-wide-requires c κs = search needs
-
-print-decimal-requires : tie.Need-print-decimal-requires
-print-decimal-requires c κs = search needs
-
-slice-aggregate-write-all : tie.Need-slice-aggregate-write-all
-slice-aggregate-write-all c = search needs
-
-write-all-requires : tie.Need-write-all-requires
-write-all-requires c κs = search needs
-
 print-tables-requires : tie.Need-print-tables-requires
 print-tables-requires c κs = passing _ _ _ _ _ _ _ _ (c .before .before .before .before .before .check .ensures) (c .if1 .taken)
 
@@ -32,11 +17,11 @@ pub print-image-spec : {M : Type 1} → statement M
 print-image-spec =
     tie.close
     (tie.spec
-    check-requires
-    wide-requires
-    print-decimal-requires
-    slice-aggregate-write-all
-    write-all-requires
+    (λ c κs. search needs)
+    (λ c κs. search needs)
+    (λ c κs. search needs)
+    (λ c. search needs)
+    (λ c κs. search needs)
     print-tables-requires
     returns
     returns-2)

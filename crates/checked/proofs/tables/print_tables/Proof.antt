@@ -12,9 +12,6 @@ Inv-loop sections bytes outcomes functions objects at₀ word₀ at word = at �
 abbrev μ-loop : tie.MeasureT-loop
 μ-loop sections bytes outcomes functions objects at₀ word₀ at word = length outcomes - at
 
-code-section-requires : tie.Need-code-section-requires Inv-loop μ-loop
-code-section-requires c κs = search needs
-
 loop-holds : tie.Need-loop-holds Inv-loop μ-loop
 loop-holds c = omega arith
 
@@ -63,12 +60,6 @@ mul-t27 c = omega arith
 shared-slice-read-t29 : tie.Need-shared-slice-read-t29 Inv-loop μ-loop
 shared-slice-read-t29 c = omega arith
 
-print-outcome-requires : tie.Need-print-outcome-requires Inv-loop μ-loop
-print-outcome-requires c κs = search needs
-
-wrapping-add-u32-requires : tie.Need-wrapping-add-u32-requires Inv-loop μ-loop
-wrapping-add-u32-requires c κs = search needs
-
 add-at : tie.Need-add-at Inv-loop μ-loop
 add-at c = omega arith
 
@@ -87,7 +78,7 @@ print-tables-spec =
     (tie.spec
     Inv-loop
     μ-loop
-    code-section-requires
+    (λ c κs. search needs)
     loop-holds
     sub-loop
     mul-t10
@@ -104,8 +95,8 @@ print-tables-spec =
     add-t26
     mul-t27
     shared-slice-read-t29
-    print-outcome-requires
-    wrapping-add-u32-requires
+    (λ c κs. search needs)
+    (λ c κs. search needs)
     add-at
     loop-less
     loop-again

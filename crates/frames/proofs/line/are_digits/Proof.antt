@@ -21,9 +21,6 @@ loop-holds c = refl
 shared-slice-read-digit-value : tie.Need-shared-slice-read-digit-value Inv-loop μ-loop
 shared-slice-read-digit-value c = omega arith
 
-digit-value-requires : tie.Need-digit-value-requires Inv-loop μ-loop
-digit-value-requires c κs = search needs
-
 returns : tie.Need-returns Inv-loop μ-loop
 returns c = digits-not _ _ (c .before .before .before .before .loop .inv) (c .before .before .before .loop-test .taken) _ (c .before .digit-value .ensures .0) (c .if1 .taken)
 
@@ -47,7 +44,7 @@ are-digits-spec =
     μ-loop
     loop-holds
     shared-slice-read-digit-value
-    digit-value-requires
+    (λ c κs. search needs)
     returns
     add-i
     loop-less

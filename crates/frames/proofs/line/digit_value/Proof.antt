@@ -6,32 +6,17 @@ use Rattle.frames.proofs.line.digit_value.Tie as tie
 returns : tie.Need-returns
 returns c = below-0 _ (c .if1 .taken)
 
-cast-result : tie.Need-cast-result
-cast-result c = search needs
-
 returns-2 : tie.Need-returns-2
 returns-2 c = among-09 _ (c .before .if1 .left) (c .if2 .taken)
 
 returns-3 : tie.Need-returns-3
 returns-3 c = below-A _ (c .before .before .if1 .left) (c .before .if2 .left) (c .if3 .taken)
 
-sub-result : tie.Need-sub-result
-sub-result c = search needs
-
-cast-result-2 : tie.Need-cast-result-2
-cast-result-2 c = search needs
-
 returns-4 : tie.Need-returns-4
 returns-4 c = among-AF _ (c .before .before .before .if1 .left) (c .before .before .if2 .left) (c .before .if3 .left) (c .if4 .taken)
 
 returns-5 : tie.Need-returns-5
 returns-5 c = below-a _ (c .before .before .before .before .if1 .left) (c .before .before .before .if2 .left) (c .before .before .if3 .left) (c .before .if4 .left) (c .if5 .taken)
-
-sub-result-2 : tie.Need-sub-result-2
-sub-result-2 c = search needs
-
-cast-result-3 : tie.Need-cast-result-3
-cast-result-3 c = search needs
 
 returns-6 : tie.Need-returns-6
 returns-6 c = among-af _ (c .before .before .before .before .before .if1 .left) (c .before .before .before .before .if2 .left) (c .before .before .before .if3 .left) (c .before .before .if4 .left) (c .before .if5 .left) (c .if6 .taken)
@@ -44,14 +29,14 @@ digit-value-spec =
     tie.close
     (tie.spec
     returns
-    cast-result
+    (λ c. search needs)
     returns-2
     returns-3
-    sub-result
-    cast-result-2
+    (λ c. search needs)
+    (λ c. search needs)
     returns-4
     returns-5
-    sub-result-2
-    cast-result-3
+    (λ c. search needs)
+    (λ c. search needs)
     returns-6
     returns-7)

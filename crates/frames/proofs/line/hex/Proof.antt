@@ -24,9 +24,6 @@ add-digit-value c = omega arith
 shared-slice-read-digit-value : tie.Need-shared-slice-read-digit-value Inv-loop μ-loop
 shared-slice-read-digit-value c = omega arith
 
-digit-value-requires : tie.Need-digit-value-requires Inv-loop μ-loop
-digit-value-requires c κs = search needs
-
 add-v : tie.Need-add-v Inv-loop μ-loop
 add-v c = let h : c .before .before .before .loop .v < 0x1000_0000 = read-room _ _ _ _ _ (c .before .before .before .before .before .pre .1) (c .before .before .loop-test .taken) (c .before .before .before .loop .inv .1) in omega arith
 
@@ -52,7 +49,7 @@ hex-spec =
     mul-v
     add-digit-value
     shared-slice-read-digit-value
-    digit-value-requires
+    (λ c κs. search needs)
     add-v
     add-i
     loop-less

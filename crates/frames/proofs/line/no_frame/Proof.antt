@@ -4,11 +4,8 @@ use borrow.Author.Needs.{needs}
 use Rattle.frames.proofs.line.no_frame.Statement.{statement}
 use Rattle.frames.proofs.line.no_frame.Tie as tie
 
-of-numbers-requires : tie.Need-of-numbers-requires
-of-numbers-requires c κs = search needs
-
 returns : tie.Need-returns
 returns c = c .of-numbers .ensures ∙ no-kind
 
 pub no-frame-spec : {M : Type 1} → statement M
-no-frame-spec = tie.close (tie.spec of-numbers-requires returns)
+no-frame-spec = tie.close (tie.spec (λ c κs. search needs) returns)

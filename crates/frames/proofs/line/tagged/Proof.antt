@@ -6,36 +6,6 @@ use borrow.Author.Needs.{needs}
 use Rattle.frames.proofs.line.tagged.Statement.{statement}
 use Rattle.frames.proofs.line.tagged.Tie as tie
 
-section-line-requires : tie.Need-section-line-requires
-section-line-requires c κs = search needs
-
-word-line-requires : tie.Need-word-line-requires
-word-line-requires c κs = search needs
-
-one-word-requires : tie.Need-one-word-requires
-one-word-requires c κs = search needs
-
-two-words-requires : tie.Need-two-words-requires
-two-words-requires c κs = search needs
-
-branch-line-requires : tie.Need-branch-line-requires
-branch-line-requires c κs = search needs
-
-symbol-line-requires : tie.Need-symbol-line-requires
-symbol-line-requires c κs = search needs
-
-symbol-line-requires-2 : tie.Need-symbol-line-requires-2
-symbol-line-requires-2 c κs = search needs
-
-two-words-requires-2 : tie.Need-two-words-requires-2
-two-words-requires-2 c κs = search needs
-
-one-word-requires-2 : tie.Need-one-word-requires-2
-one-word-requires-2 c κs = search needs
-
-no-frame-requires : tie.Need-no-frame-requires
-no-frame-requires c κs = search needs
-
 returns : tie.Need-returns
 unfolding tagged of-kind if
 returns c = tag-is (c .before .before .before .args .line .now) _ (c .before .before .before .args .tag) 1 (c .before .match .keys1) (c .section-line .ensures)
@@ -79,16 +49,16 @@ pub tagged-spec : {M : Type 1} → statement M
 tagged-spec =
     tie.close
     (tie.spec
-    section-line-requires
-    word-line-requires
-    one-word-requires
-    two-words-requires
-    branch-line-requires
-    symbol-line-requires
-    symbol-line-requires-2
-    two-words-requires-2
-    one-word-requires-2
-    no-frame-requires
+    (λ c κs. search needs)
+    (λ c κs. search needs)
+    (λ c κs. search needs)
+    (λ c κs. search needs)
+    (λ c κs. search needs)
+    (λ c κs. search needs)
+    (λ c κs. search needs)
+    (λ c κs. search needs)
+    (λ c κs. search needs)
+    (λ c κs. search needs)
     returns
     returns-2
     returns-3

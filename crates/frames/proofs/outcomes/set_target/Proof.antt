@@ -8,20 +8,11 @@ use borrow.Author.Needs.{needs}
 use Rattle.frames.proofs.outcomes.set_target.Statement.{statement}
 use Rattle.frames.proofs.outcomes.set_target.Tie as tie
 
-last-is-requires : tie.Need-last-is-requires
-last-is-requires c κs = search needs
-
 set-back-requires : tie.Need-set-back-requires
 set-back-requires c κs = let a = c .before .before .before .before .before .args in let h : 6 ≤ a .n = word-there (a .n) (a .outcomes .now) (c .before .before .before .before .before .pre) 4 (sym (c .before .if1 .taken) ∙ c .before .before .last-is .ensures) in (omega arith, omega arith, omega arith)
 
-same-length : tie.Need-same-length
-same-length c = search needs
-
 returns : tie.Need-returns
 returns c = let a = c .before .before .before .before .before .before .before .before .args in told-now (a .n) (a .outcomes .now) (c .before .before .before .before .before .before .before .before .pre) 4 (set-back (take (a .n) (a .outcomes .now)) 4 (a .a)) _ (sym (c .before .before .before .before .if1 .taken) ∙ c .before .before .before .before .before .last-is .ensures) (c .before .before .set-back .ensures)
-
-same-length-2 : tie.Need-same-length-2
-same-length-2 c = search needs
 
 returns-2 : tie.Need-returns-2
 returns-2 c = let a = c .before .before .before .before .args in told-none (a .n) (a .outcomes .now) (c .before .before .before .before .pre) 4 (set-back (take (a .n) (a .outcomes .now)) 4 (a .a)) (sym (c .if1 .left) ∙ c .before .last-is .ensures)
@@ -29,4 +20,4 @@ returns-2 c = let a = c .before .before .before .before .args in told-none (a .n
 pub set-target-spec : {M : Type 1} → statement M
 set-target-spec =
     tie.close
-    (tie.spec last-is-requires set-back-requires same-length returns same-length-2 returns-2)
+    (tie.spec (λ c κs. search needs) set-back-requires (λ c. search needs) returns (λ c. search needs) returns-2)

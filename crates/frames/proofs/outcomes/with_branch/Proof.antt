@@ -3,35 +3,11 @@ use borrow.Author.Needs.{needs}
 use Rattle.frames.proofs.outcomes.with_branch.Statement.{statement}
 use Rattle.frames.proofs.outcomes.with_branch.Tie as tie
 
-back-requires : tie.Need-back-requires
-back-requires c κs = search needs
-
-set-pair-requires : tie.Need-set-pair-requires
-set-pair-requires c κs = search needs
-
-same-length : tie.Need-same-length
-same-length c = search needs
-
 returns : tie.Need-returns
 returns c = let a = c .before .before .before .before .before .before .before .before .args in first-branch (a .n) (a .outcomes .now) (c .before .before .before .before .before .before .before .before .pre .1) (a .way) (a .a) _ (c .before .before .before .before .before .back .ensures) _ (c .before .before .before .before .if1 .taken) (c .before .before .set-pair .ensures)
 
-back-requires-2 : tie.Need-back-requires-2
-back-requires-2 c κs = search needs
-
-set-pair-requires-2 : tie.Need-set-pair-requires-2
-set-pair-requires-2 c κs = search needs
-
-same-length-2 : tie.Need-same-length-2
-same-length-2 c = search needs
-
 returns-2 : tie.Need-returns-2
 returns-2 c = let a = c .before .before .before .before .before .before .before .before .before .before .before .args in second-branch (a .n) (a .outcomes .now) (c .before .before .before .before .before .before .before .before .before .before .before .pre .1) (a .way) (a .a) _ (c .before .before .before .before .before .before .before .before .back .ensures) (c .before .before .before .before .before .before .before .if1 .left) _ (c .before .before .before .before .before .back2 .ensures) _ (c .before .before .before .before .if2 .taken) (c .before .before .set-pair2 .ensures)
-
-set-back-requires : tie.Need-set-back-requires
-set-back-requires c κs = search needs
-
-same-length-3 : tie.Need-same-length-3
-same-length-3 c = search needs
 
 returns-3 : tie.Need-returns-3
 returns-3 c = let a = c .before .before .before .before .before .before .before .before .before .before .before .args in third-branch (a .n) (a .outcomes .now) (c .before .before .before .before .before .before .before .before .before .before .before .pre .1) (a .way) (a .a) _ (c .before .before .before .before .before .before .before .before .back .ensures) (c .before .before .before .before .before .before .before .if1 .left) _ (c .before .before .before .before .before .back2 .ensures) _ (c .before .before .before .before .if2 .left) (c .before .before .set-back .ensures)
@@ -40,14 +16,14 @@ pub with-branch-spec : {M : Type 1} → statement M
 with-branch-spec =
     tie.close
     (tie.spec
-    back-requires
-    set-pair-requires
-    same-length
+    (λ c κs. search needs)
+    (λ c κs. search needs)
+    (λ c. search needs)
     returns
-    back-requires-2
-    set-pair-requires-2
-    same-length-2
+    (λ c κs. search needs)
+    (λ c κs. search needs)
+    (λ c. search needs)
     returns-2
-    set-back-requires
-    same-length-3
+    (λ c κs. search needs)
+    (λ c. search needs)
     returns-3)

@@ -8,24 +8,12 @@ use Rattle.frames.proofs.rows.add_four.Tie as tie
 returns : tie.Need-returns
 returns c = let a = c .before .before .args in add-kept (a .limit) (a .n) (a .a ∷ a .b ∷ a .c ∷ a .d ∷ []) (a .xs .now) (c .before .before .pre) (c .if1 .taken)
 
-sub-if2 : tie.Need-sub-if2
-sub-if2 c = search needs
-
 returns-2 : tie.Need-returns-2
 returns-2 c = let a = c .before .before .before .args in add-full (a .limit) (a .n) (a .a ∷ a .b ∷ a .c ∷ a .d ∷ []) (a .xs .now) (c .before .before .before .pre) 4 refl (c .before .if1 .left) (c .if2 .taken)
-
-put-four-requires : tie.Need-put-four-requires
-put-four-requires c κs = search needs
-
-add-t9 : tie.Need-add-t9
-add-t9 c = search needs
-
-same-length : tie.Need-same-length
-same-length c = search needs
 
 returns-3 : tie.Need-returns-3
 returns-3 c = let a = c .before .before .before .before .before .before .before .args in add-put (a .limit) (a .n) (a .a ∷ a .b ∷ a .c ∷ a .d ∷ []) (a .xs .now) (c .before .before .before .before .before .before .before .pre) 4 refl (c .before .before .before .before .before .if1 .left) (c .before .before .before .before .if2 .left) _ (c .before .before .put-four .ensures)
 
 pub add-four-spec : {M : Type 1} → statement M
 add-four-spec =
-    tie.close (tie.spec returns sub-if2 returns-2 put-four-requires add-t9 same-length returns-3)
+    tie.close (tie.spec returns (λ c. search needs) returns-2 (λ c κs. search needs) (λ c. search needs) (λ c. search needs) returns-3)

@@ -5,21 +5,9 @@ use borrow.Author.Needs.{needs}
 use Rattle.frames.proofs.rows.put_four.Statement.{statement}
 use Rattle.frames.proofs.rows.put_four.Tie as tie
 
-put-two-requires : tie.Need-put-two-requires
-put-two-requires c κs = search needs
-
-add-put-two : tie.Need-add-put-two
-add-put-two c = search needs
-
-put-two-requires-2 : tie.Need-put-two-requires-2
-put-two-requires-2 c κs = search needs
-
-same-length : tie.Need-same-length
-same-length c = search needs
-
 returns : tie.Need-returns
 returns c = let a = c .before .before .before .before .before .before .before .before .before .args in put-both (a .n) _ (a .a ∷ a .b ∷ []) (a .c ∷ a .d ∷ []) _ _ _ refl (c .before .before .before .before .before .before .put-two .ensures) (c .before .before .put-two2 .ensures)
 
 pub put-four-spec : {M : Type 1} → statement M
 put-four-spec =
-    tie.close (tie.spec put-two-requires add-put-two put-two-requires-2 same-length returns)
+    tie.close (tie.spec (λ c κs. search needs) (λ c. search needs) (λ c κs. search needs) (λ c. search needs) returns)

@@ -3,17 +3,8 @@ use borrow.Author.Needs.{needs}
 use Rattle.frames.proofs.words.back.Statement.{statement}
 use Rattle.frames.proofs.words.back.Tie as tie
 
-sub-result : tie.Need-sub-result
-sub-result c = search needs
-
-mul-result : tie.Need-mul-result
-mul-result c = search needs
-
-shared-slice-read-result : tie.Need-shared-slice-read-result
-shared-slice-read-result c = search needs
-
 returns : tie.Need-returns
 returns c = back-is (c .before .args .n) (c .before .args .xs .now) (c .before .pre .2) (c .before .args .k) (c .before .pre .0) (c .before .pre .1)
 
 pub back-spec : {M : Type 1} → statement M
-back-spec = tie.close (tie.spec sub-result mul-result shared-slice-read-result returns)
+back-spec = tie.close (tie.spec (λ c. search needs) (λ c. search needs) (λ c. search needs) returns)

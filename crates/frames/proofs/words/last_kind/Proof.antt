@@ -6,9 +6,6 @@ use Rattle.frames.proofs.words.last_kind.Tie as tie
 returns : tie.Need-returns
 returns c = no-section (c .before .before .args .n) (c .before .before .args .sections .now) (c .before .before .pre) (c .if1 .taken)
 
-back-requires : tie.Need-back-requires
-back-requires c κs = search needs
-
 returns-2 : tie.Need-returns-2
 returns-2 c = code-section (c .before .before .before .before .args .n) (c .before .before .before .before .args .sections .now) (c .before .before .before .before .pre) _ (c .before .back .ensures) (c .before .before .if1 .left) (c .if2 .taken)
 
@@ -16,4 +13,4 @@ returns-3 : tie.Need-returns-3
 returns-3 c = other-section (c .before .before .before .before .args .n) (c .before .before .before .before .args .sections .now) (c .before .before .before .before .pre) _ (c .before .back .ensures) (c .before .before .if1 .left) (c .if2 .left)
 
 pub last-kind-spec : {M : Type 1} → statement M
-last-kind-spec = tie.close (tie.spec returns back-requires returns-2 returns-3)
+last-kind-spec = tie.close (tie.spec returns (λ c κs. search needs) returns-2 returns-3)

@@ -3,17 +3,8 @@ use borrow.Author.Needs.{needs}
 use Rattle.frames.proofs.words.set_pair.Statement.{statement}
 use Rattle.frames.proofs.words.set_pair.Tie as tie
 
-set-back-requires : tie.Need-set-back-requires
-set-back-requires c κs = search needs
-
-set-back-requires-2 : tie.Need-set-back-requires-2
-set-back-requires-2 c κs = search needs
-
-same-length : tie.Need-same-length
-same-length c = search needs
-
 returns : tie.Need-returns
 returns c = pair-is (c .before .before .before .before .before .before .before .before .before .args .n) (c .before .before .before .before .before .before .before .before .before .args .k) (c .before .before .before .before .before .before .before .before .before .args .j) _ _ (c .before .before .before .before .before .before .before .before .before .args .xs .now) _ _ (c .before .before .before .before .before .before .set-back .ensures) (c .before .before .set-back2 .ensures)
 
 pub set-pair-spec : {M : Type 1} → statement M
-set-pair-spec = tie.close (tie.spec set-back-requires set-back-requires-2 same-length returns)
+set-pair-spec = tie.close (tie.spec (λ c κs. search needs) (λ c κs. search needs) (λ c. search needs) returns)

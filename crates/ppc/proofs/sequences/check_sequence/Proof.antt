@@ -5,20 +5,11 @@ use Rattle.ppc.proofs.sequences.check_sequence.Statement.{statement}
 use Rattle.ppc.proofs.sequences.check_sequence.Tie as tie
 use Rattle.ppc.proofs.sequences.is_pair.Reads as is-pair-reads
 
-is-pair-requires : tie.Need-is-pair-requires
-is-pair-requires c κs = search needs
-
 returns : tie.Need-returns
 returns c = search (needs, first-fits)
 
-is-pair-requires-2 : tie.Need-is-pair-requires-2
-is-pair-requires-2 c κs = search needs
-
 returns-2 : tie.Need-returns-2
 returns-2 c = search (needs, second-fits)
-
-is-pair-requires-3 : tie.Need-is-pair-requires-3
-is-pair-requires-3 c κs = search needs
 
 returns-3 : tie.Need-returns-3
 returns-3 c = search (needs, third-decides)
@@ -26,4 +17,4 @@ returns-3 c = search (needs, third-decides)
 pub check-sequence-spec : {M : Type 1} → statement M
 check-sequence-spec =
     tie.close
-    (tie.spec is-pair-requires returns is-pair-requires-2 returns-2 is-pair-requires-3 returns-3)
+    (tie.spec (λ c κs. search needs) returns (λ c κs. search needs) returns-2 (λ c κs. search needs) returns-3)

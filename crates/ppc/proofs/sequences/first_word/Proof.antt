@@ -15,20 +15,8 @@ returns c = below-section _ refl (c .if1 .taken)
 returns-2 : tie.Need-returns-2
 returns-2 c = let a = c .before .before .before .args in let h : length (now (a .bytes)) < a .addr - a .base + 4 = omega arith in past-section _ refl (omega arith) h
 
-cast-at : tie.Need-cast-at
-cast-at c = search needs
-
-sub-if3 : tie.Need-sub-if3
-sub-if3 c = search needs
-
 returns-3 : tie.Need-returns-3
 returns-3 c = let a = c .before .before .before .before .args in let h : length (now (a .bytes)) < a .addr - a .base + 4 = omega arith in past-section _ refl (omega arith) h
-
-word-at-requires : tie.Need-word-at-requires
-word-at-requires c κs = search needs
-
-add-t7 : tie.Need-add-t7
-add-t7 c = search needs
 
 returns-4 : tie.Need-returns-4
 returns-4 c = in-section _ refl (omega arith) (c .word-at .ensures)
@@ -36,4 +24,4 @@ returns-4 c = in-section _ refl (omega arith) (c .word-at .ensures)
 pub first-word-spec : {M : Type 1} → statement M
 first-word-spec =
     tie.close
-    (tie.spec returns returns-2 cast-at sub-if3 returns-3 word-at-requires add-t7 returns-4)
+    (tie.spec returns returns-2 (λ c. search needs) (λ c. search needs) returns-3 (λ c κs. search needs) (λ c. search needs) returns-4)

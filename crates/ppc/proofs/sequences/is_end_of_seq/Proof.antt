@@ -5,18 +5,9 @@ use borrow.Author.Needs.{needs}
 use Rattle.ppc.proofs.sequences.is_end_of_seq.Statement.{statement}
 use Rattle.ppc.proofs.sequences.is_end_of_seq.Tie as tie
 
-code-requires : tie.Need-code-requires
-code-requires c κs = search needs
-
-field-requires : tie.Need-field-requires
-field-requires c κs = search needs
-
-names-low-requires : tie.Need-names-low-requires
-names-low-requires c κs = search needs
-
 returns : tie.Need-returns
 unfolding is-end-of-seq names-r0-or-r1 registers-named
 returns c = cc (c .before .before .code .ensures .fields, c .before .before .code .ensures .branch)
 
 pub is-end-of-seq-spec : {M : Type 1} → statement M
-is-end-of-seq-spec = tie.close (tie.spec code-requires field-requires names-low-requires returns)
+is-end-of-seq-spec = tie.close (tie.spec (λ c κs. search needs) (λ c κs. search needs) (λ c κs. search needs) returns)

@@ -5,9 +5,6 @@ use Rattle.ppc.proofs.sequences.is_pair.Statement.{statement}
 use Rattle.ppc.proofs.sequences.is_pair.Tie as tie
 use Rattle.ppc.proofs.sequences.scan.Reads as scan-reads
 
-scan-requires : tie.Need-scan-requires
-scan-requires c κs = search needs
-
 returns : tie.Need-returns
 returns c = search (needs, pair-scan)
 
@@ -15,4 +12,4 @@ returns-2 : tie.Need-returns-2
 returns-2 c = search needs
 
 pub is-pair-spec : {M : Type 1} → statement M
-is-pair-spec = tie.close (tie.spec scan-requires returns returns-2)
+is-pair-spec = tie.close (tie.spec (λ c κs. search needs) returns returns-2)

@@ -17,11 +17,8 @@ cast-t-2 c = sum-unsigned (c .args .d) (c .fits .d)
 add-t-2 : tie.Need-add-t-2
 add-t-2 c = total-fits (c .args .d) (c .fits .d) (c .args .a) (omega (arith, c .fits .a))
 
-cast-result : tie.Need-cast-result
-cast-result c = search needs
-
 returns : tie.Need-returns
 returns c = moved-is (c .args .d) (c .fits .d) (c .args .a) (omega (arith, c .fits .a))
 
 pub moved-spec : {M : Type 1} → statement M
-moved-spec = tie.close (tie.spec cast-t add-t cast-t-2 add-t-2 cast-result returns)
+moved-spec = tie.close (tie.spec cast-t add-t cast-t-2 add-t-2 (λ c. search needs) returns)

@@ -6,14 +6,8 @@ use borrow.Author.Needs.{needs}
 use Rattle.ppc_registers.proofs.registers.bit_of.Statement.{statement}
 use Rattle.ppc_registers.proofs.registers.bit_of.Tie as tie
 
-shr-result : tie.Need-shr-result
-shr-result c = search needs
-
-cast-result : tie.Need-cast-result
-cast-result c = search needs
-
 returns : tie.Need-returns
 returns c = let e : 1 * c .args .k ≡ c .args .k = omega arith in rw e (search needs)
 
 pub bit-of-spec : {M : Type 1} → statement M
-bit-of-spec = tie.close (tie.spec shr-result cast-result returns)
+bit-of-spec = tie.close (tie.spec (λ c. search needs) (λ c. search needs) returns)

@@ -6,15 +6,9 @@ use Rattle.ppc_registers.proofs.registers.names_r0_or_r1.Tie as tie
 use Rattle.ppc_registers.proofs.registers.code.Reads as code-reads
 use Rattle.ppc_registers.proofs.registers.names_low.Reads as names-low-reads
 
-code-requires : tie.Need-code-requires
-code-requires c κs = search needs
-
-names-low-requires : tie.Need-names-low-requires
-names-low-requires c κs = search needs
-
 returns : tie.Need-returns
 unfolding names-r0-or-r1 registers-named
 returns c = cc (c .before .code .ensures .fields)
 
 pub names-r0-or-r1-spec : {M : Type 1} → statement M
-names-r0-or-r1-spec = tie.close (tie.spec code-requires names-low-requires returns)
+names-r0-or-r1-spec = tie.close (tie.spec (λ c κs. search needs) (λ c κs. search needs) returns)

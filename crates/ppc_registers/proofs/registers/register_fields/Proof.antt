@@ -7,11 +7,8 @@ use Rattle.ppc_registers.proofs.registers.register_fields.Statement.{st
 use Rattle.ppc_registers.proofs.registers.register_fields.Tie as tie
 use Rattle.ppc_registers.proofs.registers.code.Reads as code-reads
 
-code-requires : tie.Need-code-requires
-code-requires c κs = search needs
-
 returns : tie.Need-returns
 returns c = (low-code (c .code .result) ∙ c .code .ensures .fields, omega arith)
 
 pub register-fields-spec : {M : Type 1} → statement M
-register-fields-spec = tie.close (tie.spec code-requires returns)
+register-fields-spec = tie.close (tie.spec (λ c κs. search needs) returns)

@@ -4,38 +4,14 @@ use borrow.Author.Needs.{needs}
 use Rattle.reading.proofs.given.put_given.Statement.{statement}
 use Rattle.reading.proofs.given.put_given.Tie as tie
 
-add-three-requires : tie.Need-add-three-requires
-add-three-requires c κs = search needs
-
-same-length : tie.Need-same-length
-same-length c = search needs
-
 returns : tie.Need-returns
 returns c = let a = c .before .before .before .before .before .before .before .before .before .before .args in gives-function (a .f) (a .r) (a .functions .now) (a .objects .now) (a .skips .now) (a .entry .now) (c .before .before .before .before .before .before .before .before .before .before .pre .1 .0) (c .before .before .before .before .before .before .before .before .before .before .pre .1 .1) (c .before .before .before .before .before .before .before .before .before .before .pre .1 .2) (c .before .before .before .before .before .before .before .before .before .before .pre .1 .3) _ (c .before .before .before .before .if1 .taken) _ (c .before .before .add-three .ensures)
-
-add-three-requires-2 : tie.Need-add-three-requires-2
-add-three-requires-2 c κs = search needs
-
-same-length-2 : tie.Need-same-length-2
-same-length-2 c = search needs
 
 returns-2 : tie.Need-returns-2
 returns-2 c = let a = c .before .before .before .before .before .before .before .before .before .before .before .before .args in gives-object (a .f) (a .r) (a .functions .now) (a .objects .now) (a .skips .now) (a .entry .now) (c .before .before .before .before .before .before .before .before .before .before .before .before .pre .1 .0) (c .before .before .before .before .before .before .before .before .before .before .before .before .pre .1 .1) (c .before .before .before .before .before .before .before .before .before .before .before .before .pre .1 .2) (c .before .before .before .before .before .before .before .before .before .before .before .before .pre .1 .3) _ (c .before .before .before .before .if2 .taken) _ (c .before .before .add-three2 .ensures)
 
-add-two-requires : tie.Need-add-two-requires
-add-two-requires c κs = search needs
-
-same-length-3 : tie.Need-same-length-3
-same-length-3 c = search needs
-
 returns-3 : tie.Need-returns-3
 returns-3 c = let a = c .before .before .before .before .before .before .before .before .before .before .before .before .before .before .args in gives-skip (a .f) (a .r) (a .functions .now) (a .objects .now) (a .skips .now) (a .entry .now) (c .before .before .before .before .before .before .before .before .before .before .before .before .before .before .pre .1 .0) (c .before .before .before .before .before .before .before .before .before .before .before .before .before .before .pre .1 .1) (c .before .before .before .before .before .before .before .before .before .before .before .before .before .before .pre .1 .2) (c .before .before .before .before .before .before .before .before .before .before .before .before .before .before .pre .1 .3) _ (c .before .before .before .before .if3 .taken) _ (c .before .before .add-two .ensures)
-
-add-one-requires : tie.Need-add-one-requires
-add-one-requires c κs = search needs
-
-same-length-4 : tie.Need-same-length-4
-same-length-4 c = search needs
 
 returns-4 : tie.Need-returns-4
 returns-4 c = let a = c .before .before .before .before .before .before .before .before .before .before .before .before .before .before .args in gives-entry (a .f) (a .r) (a .functions .now) (a .objects .now) (a .skips .now) (a .entry .now) (c .before .before .before .before .before .before .before .before .before .before .before .before .before .before .pre .1 .0) (c .before .before .before .before .before .before .before .before .before .before .before .before .before .before .pre .1 .1) (c .before .before .before .before .before .before .before .before .before .before .before .before .before .before .pre .1 .2) (c .before .before .before .before .before .before .before .before .before .before .before .before .before .before .pre .1 .3) _ (omega arith) _ (c .before .before .add-one .ensures)
@@ -44,15 +20,15 @@ pub put-given-spec : {M : Type 1} → statement M
 put-given-spec =
     tie.close
     (tie.spec
-    add-three-requires
-    same-length
+    (λ c κs. search needs)
+    (λ c. search needs)
     returns
-    add-three-requires-2
-    same-length-2
+    (λ c κs. search needs)
+    (λ c. search needs)
     returns-2
-    add-two-requires
-    same-length-3
+    (λ c κs. search needs)
+    (λ c. search needs)
     returns-3
-    add-one-requires
-    same-length-4
+    (λ c κs. search needs)
+    (λ c. search needs)
     returns-4)

@@ -3,32 +3,11 @@ use borrow.Author.Needs.{needs}
 use Rattle.reading.proofs.image.put_image.Statement.{statement}
 use Rattle.reading.proofs.image.put_image.Tie as tie
 
-add-four-requires : tie.Need-add-four-requires
-add-four-requires c κs = search needs
-
-same-length : tie.Need-same-length
-same-length c = search needs
-
 returns : tie.Need-returns
 returns c = let a = c .before .before .before .before .before .before .before .before .before .args in image-section (a .f) (a .r) (a .sections .now) (a .bytes .now) (a .outcomes .now) (c .before .before .before .before .before .before .before .before .before .pre .1 .1 .0) (c .before .before .before .before .before .before .before .before .before .pre .1 .1 .1) (c .before .before .before .before .before .before .before .before .before .pre .1 .1 .2) (c .before .before .before .before .if1 .taken) _ _ (c .before .before .add-four .ensures)
 
-put-word-requires : tie.Need-put-word-requires
-put-word-requires c κs = search needs
-
-same-length-2 : tie.Need-same-length-2
-same-length-2 c = search needs
-
-same-length-3 : tie.Need-same-length-3
-same-length-3 c = search needs
-
 returns-2 : tie.Need-returns-2
 returns-2 c = let a = c .before .before .before .before .before .before .before .before .before .before .before .before .before .before .args in image-word (a .f) (a .r) (a .sections .now) (a .bytes .now) (a .outcomes .now) (c .before .before .before .before .before .before .before .before .before .before .before .before .before .before .pre .1 .1 .0) (c .before .before .before .before .before .before .before .before .before .before .before .before .before .before .pre .1 .1 .1) (c .before .before .before .before .before .before .before .before .before .before .before .before .before .before .pre .1 .1 .2) (c .before .before .before .before .before .before .before .if2 .taken) _ _ _ (c .before .before .before .before .put-word .ensures)
-
-put-told-requires : tie.Need-put-told-requires
-put-told-requires c κs = search needs
-
-same-length-4 : tie.Need-same-length-4
-same-length-4 c = search needs
 
 returns-3 : tie.Need-returns-3
 returns-3 c = let a = c .before .before .before .before .before .before .before .before .before .before .before .args in image-told (a .f) (a .r) (a .sections .now) (a .bytes .now) (a .outcomes .now) (c .before .before .before .before .before .before .before .before .before .before .before .pre .1 .1 .0) (c .before .before .before .before .before .before .before .before .before .before .before .pre .1 .1 .1) (c .before .before .before .before .before .before .before .before .before .before .before .pre .1 .1 .2) _ _ (c .before .before .put-told .ensures)
@@ -37,13 +16,13 @@ pub put-image-spec : {M : Type 1} → statement M
 put-image-spec =
     tie.close
     (tie.spec
-    add-four-requires
-    same-length
+    (λ c κs. search needs)
+    (λ c. search needs)
     returns
-    put-word-requires
-    same-length-2
-    same-length-3
+    (λ c κs. search needs)
+    (λ c. search needs)
+    (λ c. search needs)
     returns-2
-    put-told-requires
-    same-length-4
+    (λ c κs. search needs)
+    (λ c. search needs)
     returns-3)

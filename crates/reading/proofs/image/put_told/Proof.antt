@@ -6,29 +6,14 @@ use borrow.Author.Needs.{needs}
 use Rattle.reading.proofs.image.put_told.Statement.{statement}
 use Rattle.reading.proofs.image.put_told.Tie as tie
 
-set-target-requires : tie.Need-set-target-requires
-set-target-requires c κs = search needs
-
-same-length : tie.Need-same-length
-same-length c = search needs
-
 returns : tie.Need-returns
 returns c = let a = c .before .before .before .before .before .before .before .args in told-target (a .f) (a .r) (a .outcomes .now) _ _ (c .before .before .before .before .if1 .taken) (c .before .before .set-target .ensures)
-
-set-table-requires : tie.Need-set-table-requires
-set-table-requires c κs = search needs
-
-same-length-2 : tie.Need-same-length-2
-same-length-2 c = search needs
 
 returns-2 : tie.Need-returns-2
 returns-2 c = let a = c .before .before .before .before .before .before .before .before .before .args in told-table (a .f) (a .r) (a .outcomes .now) _ _ (c .before .before .before .before .if2 .taken) (c .before .before .set-table .ensures)
 
 add-branch-requires : tie.Need-add-branch-requires
 add-branch-requires c κs = let a = c .before .before .before .before .before .before .args in let five : a .f .kind ≡ 5 = omega arith in let h = c .before .before .before .before .before .before .pre .1 five in (c .before .before .before .before .before .before .pre .0 .3, h .0, h .1)
-
-same-length-3 : tie.Need-same-length-3
-same-length-3 c = search needs
 
 returns-3 : tie.Need-returns-3
 returns-3 c = let a = c .before .before .before .before .before .before .before .before .before .args in told-branch (a .f) (a .r) (a .outcomes .now) _ _ (omega arith) (c .before .before .add-branch .ensures)
@@ -37,12 +22,12 @@ pub put-told-spec : {M : Type 1} → statement M
 put-told-spec =
     tie.close
     (tie.spec
-    set-target-requires
-    same-length
+    (λ c κs. search needs)
+    (λ c. search needs)
     returns
-    set-table-requires
-    same-length-2
+    (λ c κs. search needs)
+    (λ c. search needs)
     returns-2
     add-branch-requires
-    same-length-3
+    (λ c. search needs)
     returns-3)

@@ -3,23 +3,11 @@ use borrow.Author.Needs.{needs}
 use Rattle.reading.proofs.image.put_word.Statement.{statement}
 use Rattle.reading.proofs.image.put_word.Tie as tie
 
-last-kind-requires : tie.Need-last-kind-requires
-last-kind-requires c κs = search needs
-
 add-word-requires : tie.Need-add-word-requires
 add-word-requires c κs = let a = c .before .before .before .before .before .before .before .args in (section-there (a .kind) (a .w) (a .r) (a .sections .now) (a .bytes .now) (c .before .before .before .before .before .before .before .pre .1 .0) (c .before .before .before .before .before .before .before .pre .1 .1) _ (c .before .before .before .last-kind .ensures) (c .before .before .before .before .before .before .before .pre .0 .1) (c .before .before .if1 .taken), c .before .before .before .before .before .before .before .pre .1 .0, c .before .before .before .before .before .before .before .pre .1 .1)
 
-same-length : tie.Need-same-length
-same-length c = search needs
-
-same-length-2 : tie.Need-same-length-2
-same-length-2 c = search needs
-
 returns : tie.Need-returns
 returns c = let a = c .before .before .before .before .before .before .before .before .before .before .before .before .args in word-goes (a .kind) (a .w) (a .r) (a .sections .now) (a .bytes .now) (c .before .before .before .before .before .before .before .before .before .before .before .before .pre .1 .0) (c .before .before .before .before .before .before .before .before .before .before .before .before .pre .1 .1) _ (c .before .before .before .before .before .before .before .before .last-kind .ensures) (c .before .before .before .before .before .before .before .if1 .taken) _ _ _ (c .before .before .before .before .add-word .ensures)
-
-same-length-3 : tie.Need-same-length-3
-same-length-3 c = search needs
 
 returns-2 : tie.Need-returns-2
 returns-2 c = let a = c .before .before .before .before .before .args in word-stays (a .kind) (a .w) (a .r) (a .sections .now) (a .bytes .now) (c .before .before .before .before .before .pre .1 .0) (c .before .before .before .before .before .pre .1 .1) _ (c .before .last-kind .ensures) (c .if1 .left)
@@ -28,10 +16,10 @@ pub put-word-spec : {M : Type 1} → statement M
 put-word-spec =
     tie.close
     (tie.spec
-    last-kind-requires
+    (λ c κs. search needs)
     add-word-requires
-    same-length
-    same-length-2
+    (λ c. search needs)
+    (λ c. search needs)
     returns
-    same-length-3
+    (λ c. search needs)
     returns-2)

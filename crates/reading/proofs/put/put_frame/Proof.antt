@@ -10,47 +10,17 @@ returns c = let a = c .before .before .before .before .before .before .before .b
 put-image-requires : tie.Need-put-image-requires
 put-image-requires c κs = let w = c .before .before .before .before .before .before .before .before .before .before .before .before .before .before .before .pre .1 in ((c .before .before .before .before .before .before .before .if1 .taken, c .before .before .before .before .before .if2 .left, c .before .before .before .if3 .taken), (c .before .before .before .before .before .before .before .before .before .before .before .before .before .before .before .pre .0, (w .within-s, w .within-b, w .within-o)))
 
-same-length : tie.Need-same-length
-same-length c = search needs
-
-same-length-2 : tie.Need-same-length-2
-same-length-2 c = search needs
-
-same-length-3 : tie.Need-same-length-3
-same-length-3 c = search needs
-
 returns-2 : tie.Need-returns-2
 returns-2 c = let a = c .before .before .before .before .before .before .before .before .before .before .before .before .before .before .before .before .before .before .before .before .before .before .args in put-parts (a .f) (a .r) (a .sections .now) (a .bytes .now) (a .outcomes .now) (a .functions .now) (a .objects .now) (a .skips .now) (a .entry .now) (c .before .before .before .before .before .before .before .before .before .before .before .before .before .before .before .before .before .before .before .before .before .before .pre .1) (c .before .before .before .before .before .before .before .before .before .before .before .before .before .before .if1 .taken) _ _ _ _ (c .before .before .before .before .before .before .put-image .ensures)
 
 put-given-requires : tie.Need-put-given-requires
 put-given-requires c κs = let w = c .before .before .before .before .before .before .before .before .before .before .before .before .before .before .before .before .before .before .pre .1 in ((c .before .before .before .before .before .before .before .before .before .before .if1 .taken, c .before .before .before .before .before .before .if3 .left, c .before .before .before .before .if4 .taken), (w .within-f, w .within-j, w .within-k, w .within-e))
 
-same-length-4 : tie.Need-same-length-4
-same-length-4 c = search needs
-
-same-length-5 : tie.Need-same-length-5
-same-length-5 c = search needs
-
-same-length-6 : tie.Need-same-length-6
-same-length-6 c = search needs
-
-same-length-7 : tie.Need-same-length-7
-same-length-7 c = search needs
-
 returns-3 : tie.Need-returns-3
 returns-3 c = let a = c .before .before .before .before .before .before .before .before .before .before .before .before .before .before .before .before .before .before .before .before .before .before .before .before .before .before .before .args in put-rest (a .f) (a .r) (a .sections .now) (a .bytes .now) (a .outcomes .now) (a .functions .now) (a .objects .now) (a .skips .now) (a .entry .now) (c .before .before .before .before .before .before .before .before .before .before .before .before .before .before .before .before .before .before .before .before .before .before .before .before .before .before .before .pre .1) (c .before .before .before .before .before .before .before .before .before .before .before .before .before .before .before .before .before .before .before .if1 .taken) _ _ _ _ _ (c .before .before .before .before .before .before .before .before .put-given .ensures)
 
 put-code-word-requires : tie.Need-put-code-word-requires
 put-code-word-requires c κs = let w = c .before .before .before .before .before .before .before .before .before .before .before .before .before .before .before .before .before .before .before .pre .1 in ((c .before .before .before .before .before .before .before .before .before .before .before .if1 .taken, c .before .before .before .if5 .taken), (w .within-s, w .within-b, w .within-o))
-
-same-length-8 : tie.Need-same-length-8
-same-length-8 c = search needs
-
-same-length-9 : tie.Need-same-length-9
-same-length-9 c = search needs
-
-same-length-10 : tie.Need-same-length-10
-same-length-10 c = search needs
 
 returns-4 : tie.Need-returns-4
 returns-4 c = let a = c .before .before .before .before .before .before .before .before .before .before .before .before .before .before .before .before .before .before .before .before .before .before .before .before .before .before .args in put-parts (a .f) (a .r) (a .sections .now) (a .bytes .now) (a .outcomes .now) (a .functions .now) (a .objects .now) (a .skips .now) (a .entry .now) (c .before .before .before .before .before .before .before .before .before .before .before .before .before .before .before .before .before .before .before .before .before .before .before .before .before .before .pre .1) (c .before .before .before .before .before .before .before .before .before .before .before .before .before .before .before .before .before .before .if1 .taken) _ _ _ _ (c .before .before .before .before .before .before .put-code-word .ensures)
@@ -67,20 +37,20 @@ put-frame-spec =
     (tie.spec
     returns
     put-image-requires
-    same-length
-    same-length-2
-    same-length-3
+    (λ c. search needs)
+    (λ c. search needs)
+    (λ c. search needs)
     returns-2
     put-given-requires
-    same-length-4
-    same-length-5
-    same-length-6
-    same-length-7
+    (λ c. search needs)
+    (λ c. search needs)
+    (λ c. search needs)
+    (λ c. search needs)
     returns-3
     put-code-word-requires
-    same-length-8
-    same-length-9
-    same-length-10
+    (λ c. search needs)
+    (λ c. search needs)
+    (λ c. search needs)
     returns-4
     returns-5
     returns-6)

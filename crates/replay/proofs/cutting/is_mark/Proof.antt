@@ -5,35 +5,17 @@ use borrow.Author.Needs.{needs}
 use Rattle.replay.proofs.cutting.is_mark.Statement.{statement}
 use Rattle.replay.proofs.cutting.is_mark.Tie as tie
 
-shared-slice-read-if1 : tie.Need-shared-slice-read-if1
-shared-slice-read-if1 c = search needs
-
 returns : tie.Need-returns
 returns c = search needs
 
-sub-if2 : tie.Need-sub-if2
-sub-if2 c = search needs
-
 returns-2 : tie.Need-returns-2
 returns-2 c = search needs
-
-add-if3 : tie.Need-add-if3
-add-if3 c = search needs
-
-shared-slice-read-if3 : tie.Need-shared-slice-read-if3
-shared-slice-read-if3 c = search needs
 
 returns-3 : tie.Need-returns-3
 returns-3 c = search needs
 
 returns-4 : tie.Need-returns-4
 returns-4 c = record { begins = inl (c .if4 .taken); sign = c .before .before .before .before .if1 .left; ends = c .before .if3 .left; inside = omega arith }
-
-sub-if5 : tie.Need-sub-if5
-sub-if5 c = search needs
-
-shared-slice-read-if5 : tie.Need-shared-slice-read-if5
-shared-slice-read-if5 c = search needs
 
 returns-5 : tie.Need-returns-5
 returns-5 c = λ m. inside-a-line (c .before .before .if4 .left) (c .if5 .taken) (m .begins)
@@ -45,15 +27,15 @@ pub is-mark-spec : {M : Type 1} → statement M
 is-mark-spec =
     tie.close
     (tie.spec
-    shared-slice-read-if1
+    (λ c. search needs)
     returns
-    sub-if2
+    (λ c. search needs)
     returns-2
-    add-if3
-    shared-slice-read-if3
+    (λ c. search needs)
+    (λ c. search needs)
     returns-3
     returns-4
-    sub-if5
-    shared-slice-read-if5
+    (λ c. search needs)
+    (λ c. search needs)
     returns-5
     returns-6)

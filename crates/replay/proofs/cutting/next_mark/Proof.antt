@@ -14,14 +14,8 @@ abbrev μ-loop : tie.MeasureT-loop
 loop-holds : tie.Need-loop-holds Inv-loop μ-loop
 loop-holds c = searched-first _
 
-is-mark-requires : tie.Need-is-mark-requires Inv-loop μ-loop
-is-mark-requires c κs = search needs
-
 returns : tie.Need-returns Inv-loop μ-loop
 returns c = found _ _ (c .before .before .before .loop .inv) _ (c .before .is-mark .ensures) (c .if1 .taken)
-
-add-i : tie.Need-add-i Inv-loop μ-loop
-add-i c = search needs
 
 loop-less : tie.Need-loop-less Inv-loop μ-loop
 loop-less c = search needs
@@ -39,9 +33,9 @@ next-mark-spec =
     Inv-loop
     μ-loop
     loop-holds
-    is-mark-requires
+    (λ c κs. search needs)
     returns
-    add-i
+    (λ c. search needs)
     loop-less
     loop-again
     returns-2)

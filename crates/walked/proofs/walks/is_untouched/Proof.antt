@@ -21,9 +21,6 @@ mul-if1 c = omega arith
 shared-slice-read-if1 : tie.Need-shared-slice-read-if1 Inv-loop μ-loop
 shared-slice-read-if1 c = omega arith
 
-filled-requires : tie.Need-filled-requires Inv-loop μ-loop
-filled-requires c κs = search needs
-
 returns : tie.Need-returns Inv-loop μ-loop
 returns c = search needs
 
@@ -48,7 +45,7 @@ is-untouched-spec =
     loop-holds
     mul-if1
     shared-slice-read-if1
-    filled-requires
+    (λ c κs. search needs)
     returns
     add-i
     loop-less

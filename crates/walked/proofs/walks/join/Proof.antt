@@ -37,9 +37,6 @@ mul-key-2 c = omega arith
 shared-slice-read-key-2 : tie.Need-shared-slice-read-key-2 Inv-loop μ-loop
 shared-slice-read-key-2 c = omega arith
 
-key-requires : tie.Need-key-requires Inv-loop μ-loop
-key-requires c κs = search needs
-
 mul-keys : tie.Need-mul-keys Inv-loop μ-loop
 mul-keys c = omega arith
 
@@ -75,7 +72,7 @@ join-spec =
     add-key
     mul-key-2
     shared-slice-read-key-2
-    key-requires
+    (λ c κs. search needs)
     mul-keys
     element-write-keys
     add-at

@@ -13,9 +13,6 @@ Inv-loop sections bytes outcomes functions objects skips entry halves walks know
 abbrev μ-loop : tie.MeasureT-loop
 μ-loop sections bytes outcomes functions objects skips entry halves walks known n at₀ at = length walks - at
 
-join-requires : tie.Need-join-requires Inv-loop μ-loop
-join-requires c κs = search needs
-
 loop-holds : tie.Need-loop-holds Inv-loop μ-loop
 loop-holds c = omega arith
 
@@ -64,14 +61,8 @@ mul-t32 c = omega arith
 shared-slice-read-t34 : tie.Need-shared-slice-read-t34 Inv-loop μ-loop
 shared-slice-read-t34 c = omega arith
 
-array-share-prefix-known : tie.Need-array-share-prefix-known Inv-loop μ-loop
-array-share-prefix-known c = search needs
-
 slice-aggregate-make-asked : tie.Need-slice-aggregate-make-asked Inv-loop μ-loop
 slice-aggregate-make-asked c = lent-long _ _ (c .before .before .before .before .before .before .before .before .join .ensures .0) (c .before .before .before .before .before .before .before .before .join .ensures .1)
-
-make-asked-requires : tie.Need-make-asked-requires Inv-loop μ-loop
-make-asked-requires c κs = search needs
 
 add-at : tie.Need-add-at Inv-loop μ-loop
 add-at c = omega arith
@@ -91,7 +82,7 @@ make-walks-spec =
     (tie.spec
     Inv-loop
     μ-loop
-    join-requires
+    (λ c κs. search needs)
     loop-holds
     sub-loop
     mul-t15
@@ -108,9 +99,9 @@ make-walks-spec =
     add-t31
     mul-t32
     shared-slice-read-t34
-    array-share-prefix-known
+    (λ c. search needs)
     slice-aggregate-make-asked
-    make-asked-requires
+    (λ c κs. search needs)
     add-at
     loop-less
     loop-again

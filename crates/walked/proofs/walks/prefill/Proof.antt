@@ -16,9 +16,6 @@ abbrev μ-loop : tie.MeasureT-loop
 loop-holds : tie.Need-loop-holds Inv-loop μ-loop
 loop-holds c = search needs
 
-filled-requires : tie.Need-filled-requires Inv-loop μ-loop
-filled-requires c κs = search needs
-
 mul-list : tie.Need-mul-list Inv-loop μ-loop
 mul-list c = omega arith
 
@@ -44,7 +41,7 @@ prefill-spec =
     Inv-loop
     μ-loop
     loop-holds
-    filled-requires
+    (λ c κs. search needs)
     mul-list
     element-write-list
     add-i
