@@ -6,4 +6,4 @@ pub mod Again
 pub mod Lists
 pub mod Changes
 pub mod Calls
-pub mod Given
+pub mod Uses
