@@ -35,7 +35,8 @@ pub struct Took {
     pub top: Popped,
 }
 
-// Records lent for a call, by value: the table and the answer of a mark or a cut, the list and the answer of a push or a pop.
+// Records lent for a call, by value: the table and the answer of a mark or a cut, the list and the answer of a push or a pop. The answer
+// of a mark or a cut is a local before it is given back, as the table is: so one walk proves all four.
 fn mark_table(t: [Block; 260], count: usize, addr: u64) -> [Block; 260]
     ensures { λ r. ⌜ r ≡ list-of t (mark-records count addr t) ⌝ }
 {
@@ -48,7 +49,8 @@ fn mark_done(t: [Block; 260], count: usize, addr: u64) -> Done
     ensures { λ r. ⌜ IsDone (mark-records count addr t) count t (list-of t (mark-records count addr t)) r ⌝ }
 {
     let mut q = t;
-    records_blocks::mark(&mut q, count, addr)
+    let d = records_blocks::mark(&mut q, count, addr);
+    d
 }
 
 fn cut_table(t: [Block; 260], count: usize, addr: u64) -> [Block; 260]
@@ -63,7 +65,8 @@ fn cut_done(t: [Block; 260], count: usize, addr: u64) -> Done
     ensures { λ r. ⌜ IsDone (cut-records count addr t) count t (list-of t (cut-records count addr t)) r ⌝ }
 {
     let mut q = t;
-    records_blocks::cut(&mut q, count, addr)
+    let d = records_blocks::cut(&mut q, count, addr);
+    d
 }
 
 fn push_in(p: Pending, addr: u64) -> Pushed
