@@ -88,7 +88,9 @@ def split(path):
         yield [l[2:].split() for l in lines if l.startswith('# ')], [l for l in lines if l and not l.startswith('#')]
 
 
-HEAD = '''use mathlib.Core.Path.{_≡_, refl}
+HEAD = '''-- Worked examples: images handed in, and the lines that the Rust gives for them, computed by the definitions.
+-- Written by tests/definitions/theorems.py from examples.in and examples.out beside it.
+use mathlib.Core.Path.{_≡_, refl}
 use mathlib.Core.List.{[], _∷_}
 use Rattle.rules.specs.Text.{bytes}
 use Rattle.rules.specs.Given.{Given}

@@ -26,7 +26,7 @@ def main():
     options.add_argument('crate', type=crate)
     folder = options.parse_args().crate
     modules = re.findall(r'^pub mod (\w+)', (folder / 'specs/Lib.antt').read_text(), re.M)
-    names = [f'{m}.{n}' for m in modules if m != 'Accounted'
+    names = [f'{m}.{n}' for m in modules if m not in ('Accounted', 'OneFunction')
              for n in re.findall(r'^ *unfoldable pub (\S+) :', (folder / f'specs/{m}.antt').read_text(), re.M)]
     print('-- A whole run with every definition unfolded, so that it computes. Written by tests/definitions/unfold.py.')
     print('use mathlib.Core.List.{List}')

@@ -1,5 +1,5 @@
 -- The lines that `fmap` reads: document 01, "The program `fmap` reads lines of hexadecimal, one frame a line". Two digits tell which frame it
--- is; the numbers behind them have two digits (a byte) or eight (a word), with nothing between them:
+-- is; the numbers behind them have two digits (a byte) or eight (a word), with nothing between them (docs/RULES.md has them, too):
 --
 --   01 kk bbbbbbbb ssssssss   a section: kind (1 code, 2 data, 3 read-only, 4 bss), base, size
 --   02 wwwwwwww               a word of the last section

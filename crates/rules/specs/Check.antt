@@ -1,4 +1,4 @@
--- Checks 1 to 3: document 01, "The image", one test for each sentence there, in its order.
+-- Checks 1 to 3: document 01, "The image", one test for each sentence there, in its order. (docs/RULES.md has document 01's rules.)
 use Prim.Native.Nat.{ℕ, suc, _+_, _*_, _/_, _%_}
 use mathlib.Core.Bool.{Bool, true, false, _&&_, _||_, not}
 use mathlib.Core.List.{List, [], _∷_, map}

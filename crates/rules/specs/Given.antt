@@ -1,4 +1,4 @@
--- What is handed in, as numbers, and the image that it stands for. Nothing is checked here.
+-- What is handed in, as numbers, and the image that it stands for (docs/RULES.md). Nothing is checked here.
 use Prim.Native.Nat.{ℕ}
 use mathlib.Core.List.{List, [], _∷_, map}
 use lib.Dec.{eqb}

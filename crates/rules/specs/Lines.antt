@@ -1,4 +1,4 @@
--- The lines of a map, as document 01 prints them ("One run, whole"): each is a list of bytes.
+-- The lines of a map, as document 01 prints them ("One run, whole"; docs/RULES.md): each is a list of bytes.
 use Prim.Native.Nat.{ℕ, zero, suc, _+_, _/_, _%_}
 use mathlib.Core.Bool.{Bool, true, false}
 use mathlib.Core.List.{List, [], _∷_, _++_}
