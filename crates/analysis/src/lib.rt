@@ -11,7 +11,8 @@ ghost use Rattle.obj.specs.Lent.{Lent, image, seen};
 ghost use Rattle.obj.specs.Sections.{Few};
 ghost use Rattle.obj.specs.Symbols.{KeysAscend};
 ghost use Rattle.ordered.specs.Part.{Column};
-ghost use Rattle.analysis.specs.Tables.{IsTable, Live, IsTaken, IsStep, InPart, Passed, AtTable, entry-fault, sized-reading, unsized-reading, table-reading};
+ghost use Rattle.analysis.specs.Tables.{IsTable, Live, IsTaken, IsStep, InPart, Passed};
+ghost use Rattle.analysis.specs.Tables.{AtTable, entry-fault, sized-reading, unsized-reading, table-reading};
 ghost use Rattle.rules.specs.Given.{kind-of};
 ghost use Rattle.analysis.specs.Tables as sizes;
 

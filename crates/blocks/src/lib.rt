@@ -6,7 +6,8 @@ ghost use Prim.Native.Nat.{min, _+_, _<_, _≤_};
 ghost use lib.Dec.{ltb};
 ghost use lib.ListN.{length, getD};
 ghost use Rattle.rules.specs.Ordered.{has, put};
-ghost use Rattle.rules.specs.Blocks.{block, startOf, below, cut, first-start, last-start, last-end, apart, first-disconnected-block, is-block, is-table, most-blocks};
+ghost use Rattle.rules.specs.Blocks.{block, startOf, below, cut, first-start, last-start};
+ghost use Rattle.rules.specs.Blocks.{last-end, apart, first-disconnected-block, is-block, is-table, most-blocks};
 ghost use Rattle.blocks.specs.Table.{rows, Table, Room, Looked, Reached, Holds, IsStored, IsAdded};
 
 // Whether an address became the start of a new open block, or the table is full.

@@ -29,7 +29,8 @@ use Rattle.cfa_entries.specs.Adding.{Entered}
 use Rattle.cfa_entries.specs.declared.Entries.{Entries}
 use Rattle.cfa_entries.proofs.Each.{Gone, gone}
 use Rattle.cfa_process.specs.Displayed.{Displays}
-use Rattle.results.specs.Rows.{result-row, padded, Results, map-of}
+use Rattle.runs.specs.Runs.{padded}
+use Rattle.results.specs.Rows.{result-row, Results, map-of}
 use Rattle.results.proofs.Reading.{map-read}
 use Rattle.cfa.specs.Maps.{room-of, answer-of, Left, Leaves, Right, Answers, Told, Counted, Handed, Ended}
 use Rattle.cfa.specs.declared.Map.{Map}

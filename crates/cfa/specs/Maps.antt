@@ -13,7 +13,8 @@ use Rattle.obj.specs.Lent.{Lent}
 use Rattle.obj.specs.declared.sections.Code.{Code}
 use Rattle.cfa_process.specs.Displayed.{Displays}
 use Rattle.entries.specs.Table.{entry-numbers, flat, AllRight, Good}
-use Rattle.results.specs.Rows.{result-row, padded, map-of}
+use Rattle.runs.specs.Runs.{padded}
+use Rattle.results.specs.Rows.{result-row, map-of}
 use Rattle.cfa.specs.declared.Map.{Map}
 
 -- what the lent result lists hold: ten numbers for each entry in the first, and all numbers of the functions' lists in the second

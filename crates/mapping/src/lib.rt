@@ -203,8 +203,8 @@ fn map_image(text: &[u8], out: &mut [u8; 1489000]) -> usize
     )
 }
 
-// What `fmap` prints of a text, which `out` then begins with; the answer is how long it is. A text that is too long for `fmap` is refused as
-// one with a line that is no frame is.
+// What `fmap` prints of a text, which `out` then begins with; the answer is how long it is. A text that is too long for `fmap` is
+// refused as one with a line that is no frame is.
 pub fn fmap_text(text: &[u8], out: &mut [u8; 1489000]) -> usize
     requires { ⌜ length (now out) ≡ 1489000 ⌝ }
     ensures { λ r. ⌜ Begun (fmap-text (now (text .entry))) (now (out .entry)) (now (out .exit)) r ⌝ }

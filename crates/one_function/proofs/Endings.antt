@@ -20,7 +20,8 @@ use Rattle.lists.specs.declared.Small.{Small}
 use Rattle.analyze.specs.Analysis.{answered, IsAnalyzed}
 use Rattle.analyze.specs.declared.Analyzed.{Analyzed}
 use Rattle.stored.specs.Laid.{laid, Stored}
-use Rattle.one_function.specs.Results.{function, no-function, function-of, padded, kept-in, Leaves, Answers, Finished, Told}
+use Rattle.runs.specs.Runs.{padded}
+use Rattle.one_function.specs.Results.{function, no-function, function-of, kept-in, Leaves, Answers, Finished, Told}
 use Rattle.one_function.specs.declared.Function.{Function}
 use Rattle.one_function.proofs.Counts.{blocks-count, ways-count, references-count, tables-count, possible-count}
 

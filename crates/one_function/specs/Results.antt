@@ -1,8 +1,8 @@
 -- What the walk of one function answers, and what it leaves in the lent list.
 use mathlib.Core.Path.{_≡_}
 use mathlib.Core.Bool.{Bool, false}
-use mathlib.Core.List.{List, _++_, map}
-use Prim.Native.Nat.{ℕ, _-_, _/_}
+use mathlib.Core.List.{List, map}
+use Prim.Native.Nat.{ℕ, _/_}
 use lib.Dec.{leb}
 use lib.ListN.{length, replicate}
 use Rattle.rules.specs.Choice.{if, Answer, ok, fault, _>>=_}
@@ -10,6 +10,7 @@ use Rattle.rules.specs.Slices.{count-ways}
 use Rattle.rules.specs.Analyze.{Analyzed}
 use Rattle.rules.specs.Given.{Given}
 use Rattle.rules.specs.OneFunction.{numbers, stored, known-entry, check-one}
+use Rattle.runs.specs.Runs.{padded}
 use Rattle.known.specs.Table.{Kept, Knows}
 use Rattle.known_rows.specs.Rows.{known-blocks, are-known-list}
 use Rattle.one_function.specs.declared.Function.{Function}
@@ -29,10 +30,6 @@ function-of x =
     function 0 (x .found) (length (x .slices .blocks)) (count-ways (x .slices .ways)) (length (x .slices .references))
     (length (x .slices .tables)) (length (x .slices .possible)) (x .slices .prologue) (x .slices .epilogue)
     (x .slices .conditional-blr) (x .slices .rfi) (x .slices .r1-load)
-
--- numbers, and zeros past them
-abbrev pub padded : List ℕ → ℕ → List ℕ
-padded l n = l ++ replicate (n - length l) 0
 
 -- an analysis whose lists are stored
 abbrev pub kept-in : ℕ → Answer Analyzed → Answer Analyzed

@@ -9,7 +9,8 @@ use Rattle.rules.specs.Known.{Entry, new-entry}
 use Rattle.entries.specs.Table.{info-row, entry-numbers, flat, sizes, Begins, Holds}
 use Rattle.entries.proofs.Rows.{row-long, flat-append, begins-form, begins-le, rows-long, sizes-laid, count-is, behind, row-at}
 use Rattle.entries.proofs.Lookups.{entry-at, end-at}
-use Rattle.results.specs.Rows.{result-row, padded, RowPut, RowsAre, Results}
+use Rattle.runs.specs.Runs.{padded}
+use Rattle.results.specs.Rows.{result-row, RowPut, RowsAre, Results}
 
 -- ---- one row
 

@@ -7,15 +7,12 @@ use Prim.Native.Nat.{ℕ, zero, suc, _+_, _-_}
 use lib.ListN.{length, take, drop, getD, replicate}
 use Rattle.rules.specs.Blocks.{block}
 use Rattle.rules.specs.Known.{Entry}
+use Rattle.runs.specs.Runs.{padded}
 use Rattle.entries.specs.Table.{info-row, entry-numbers, flat, row-size, entry-from}
 
 -- an entry's ten numbers
 abbrev pub result-row : Entry → List ℕ
 result-row x = x .entry ∷ x .end ∷ info-row x
-
--- numbers, and zeros past them
-abbrev pub padded : List ℕ → ℕ → List ℕ
-padded l n = l ++ replicate (n - length l) 0
 
 -- a row of ten behind the first p numbers
 pub record RowPut (p : ℕ) (row before after : List ℕ) : Type 0 where

@@ -1,7 +1,7 @@
--- A run of elements put in the place of another.
+-- A run of elements put in the place of another; elements with zeros past them.
 use mathlib.Core.List.{List, _++_}
 use Prim.Native.Nat.{ℕ, _+_, _-_, _≤_}
-use lib.ListN.{length, take}
+use lib.ListN.{length, take, replicate}
 use lib.Seq.{slice}
 
 -- the first total elements of xs, with a list in the place of those from at up to until
@@ -14,3 +14,7 @@ pub record Fits (xs : List ℕ) (total at until n : ℕ) : Type 0 where
   pub within : until ≤ total
   pub lent : total ≤ length xs
   pub room : at + n + (total - until) ≤ length xs
+
+-- a list, and zeros past it up to a length
+abbrev pub padded : List ℕ → ℕ → List ℕ
+padded l n = l ++ replicate (n - length l) 0
