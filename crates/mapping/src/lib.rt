@@ -35,9 +35,9 @@ fn map_lists(
     objects: &[u32],
     skips: &[u32],
     entry: &[u32],
-    rows: &mut [u64],
-    lists: &mut [u64],
-    out: &mut [u8],
+    rows: &mut [u64; 10240],
+    lists: &mut [u64; 131072],
+    out: &mut [u8; 1489000],
 ) -> usize
     requires room { ⌜ 6 + 46 * (length (now rows) / 10) + 11 * length (now lists) ≤ length (now out) ⌝ }
     ensures { λ r. ⌜ Begun (rules.text (rules.lines (run (given (lent (now (sections .entry)) (now (bytes .entry)) (now (outcomes .entry)) (now (functions .entry)) (now (objects .entry)) (now (skips .entry)) (now (entry .entry)))) (room-of (now (rows .entry)) (now (lists .entry)))))) (now (out .entry)) (now (out .exit)) r ⌝ }
@@ -66,9 +66,9 @@ fn map_read(
     objects: &[u32],
     skips: &[u32],
     entry: &[u32],
-    rows: &mut [u64],
-    lists: &mut [u64],
-    out: &mut [u8],
+    rows: &mut [u64; 10240],
+    lists: &mut [u64; 131072],
+    out: &mut [u8; 1489000],
 ) -> usize
     requires fit { ⌜ Fit q (now sections) (now bytes) (now outcomes) (now functions) (now objects) (now skips) (now entry) ⌝ }
     requires room { ⌜ 6 + 46 * (length (now rows) / 10) + 11 * length (now lists) ≤ length (now out) ⌝ }
@@ -103,16 +103,16 @@ fn map_read(
 // them how long a list of the image.
 fn map_text(
     text: &[u8],
-    sections: &mut [u32],
-    bytes: &mut [u8],
-    outcomes: &mut [u32],
-    functions: &mut [u32],
-    objects: &mut [u32],
-    skips: &mut [u32],
-    entry: &mut [u32],
-    rows: &mut [u64],
-    lists: &mut [u64],
-    out: &mut [u8],
+    sections: &mut [u32; 36],
+    bytes: &mut [u8; 393216],
+    outcomes: &mut [u32; 6144],
+    functions: &mut [u32; 3075],
+    objects: &mut [u32; 3075],
+    skips: &mut [u32; 130],
+    entry: &mut [u32; 2],
+    rows: &mut [u64; 10240],
+    lists: &mut [u64; 131072],
+    out: &mut [u8; 1489000],
 ) -> usize
     requires room { ⌜ 6 + 46 * (length (now rows) / 10) + 11 * length (now lists) ≤ length (now out) ⌝ }
     ensures { λ r. ⌜ Begun (map-text (room (now (sections .entry)) (now (bytes .entry)) (now (outcomes .entry)) (now (functions .entry)) (now (objects .entry)) (now (skips .entry)) (now (entry .entry))) (room-of (now (rows .entry)) (now (lists .entry))) (now (text .entry))) (now (out .entry)) (now (out .exit)) r ⌝ }
@@ -142,7 +142,7 @@ fn map_text(
     )
 }
 
-// The same in arrays of fixed sizes, which are made slices here.
+// The same, of how long the arrays are.
 fn map_in_arrays(
     text: &[u8],
     sections: &mut [u32; 36],

@@ -11,10 +11,10 @@ use frames::line::Frame;
 // more than 1,024 symbols, 64 skip ranges or one entry point.
 pub fn put_given(
     r: Reading,
-    functions: &mut [u32],
-    objects: &mut [u32],
-    skips: &mut [u32],
-    entry: &mut [u32],
+    functions: &mut [u32; 3075],
+    objects: &mut [u32; 3075],
+    skips: &mut [u32; 130],
+    entry: &mut [u32; 2],
     f: Frame,
 ) -> Reading
     requires going { ⌜ (r .ok ≡ true) × (6 ≤ f .kind) × (f .kind ≤ 9) ⌝ }

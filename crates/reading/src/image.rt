@@ -8,7 +8,13 @@ use crate::state::Reading;
 use frames::line::Frame;
 
 // A word of the last section, if this is code (1) or another (2), as is asked for.
-fn put_word(r: Reading, sections: &mut [u32], bytes: &mut [u8], w: u32, kind: u32) -> Reading
+fn put_word(
+    r: Reading,
+    sections: &mut [u32; 36],
+    bytes: &mut [u8; 393216],
+    w: u32,
+    kind: u32,
+) -> Reading
     requires going { ⌜ (r .ok ≡ true) × (1 ≤ kind) × (kind ≤ 2) ⌝ }
     requires fit { ⌜ (r .sections ≤ length (now sections)) × (r .bytes ≤ length (now bytes)) ⌝ }
     ensures { λ q. ⌜ WordPut kind w r q (now (sections .entry)) (now (sections .exit)) (now (bytes .entry)) (now (bytes .exit)) ⌝ }
@@ -27,9 +33,9 @@ fn put_word(r: Reading, sections: &mut [u32], bytes: &mut [u8], w: u32, kind: u3
 // A code word with its outcome. Code is at most 1,024 words.
 pub fn put_code_word(
     r: Reading,
-    sections: &mut [u32],
-    bytes: &mut [u8],
-    outcomes: &mut [u32],
+    sections: &mut [u32; 36],
+    bytes: &mut [u8; 393216],
+    outcomes: &mut [u32; 6144],
     f: Frame,
 ) -> Reading
     requires going { ⌜ (r .ok ≡ true) × (f .kind ≡ 10) ⌝ }
@@ -51,7 +57,7 @@ pub fn put_code_word(
 }
 
 // What the last code word does: its target, its jump table, its next branch.
-fn put_told(r: Reading, outcomes: &mut [u32], f: Frame) -> Reading
+fn put_told(r: Reading, outcomes: &mut [u32; 6144], f: Frame) -> Reading
     requires going { ⌜ (r .ok ≡ true) × (3 ≤ f .kind) × (f .kind ≤ 5) × (r .outcomes ≤ length (now outcomes)) ⌝ }
     requires small { ⌜ (f .kind ≡ 5 → (f .first ≤ 1) × (f .second ≤ 2)) ⌝ }
     ensures { λ q. ⌜ ToldPut f r q (now (outcomes .entry)) (now (outcomes .exit)) ⌝ }
@@ -72,9 +78,9 @@ fn put_told(r: Reading, outcomes: &mut [u32], f: Frame) -> Reading
 // A section, a word that is not of code, or what the last code word does.
 pub fn put_image(
     r: Reading,
-    sections: &mut [u32],
-    bytes: &mut [u8],
-    outcomes: &mut [u32],
+    sections: &mut [u32; 36],
+    bytes: &mut [u8; 393216],
+    outcomes: &mut [u32; 6144],
     f: Frame,
 ) -> Reading
     requires going { ⌜ (r .ok ≡ true) × (1 ≤ f .kind) × (f .kind ≤ 5) ⌝ }

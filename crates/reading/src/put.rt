@@ -11,13 +11,13 @@ use frames::line::Frame;
 // A frame put into the lists. Where it is none, or does not belong there, nothing is said of them any more.
 pub fn put_frame(
     r: Reading,
-    sections: &mut [u32],
-    bytes: &mut [u8],
-    outcomes: &mut [u32],
-    functions: &mut [u32],
-    objects: &mut [u32],
-    skips: &mut [u32],
-    entry: &mut [u32],
+    sections: &mut [u32; 36],
+    bytes: &mut [u8; 393216],
+    outcomes: &mut [u32; 6144],
+    functions: &mut [u32; 3075],
+    objects: &mut [u32; 3075],
+    skips: &mut [u32; 130],
+    entry: &mut [u32; 2],
     f: Frame,
 ) -> Reading
     requires small { ⌜ (f .kind ≡ 5 → (f .first ≤ 1) × (f .second ≤ 2)) ⌝ }

@@ -24,13 +24,13 @@ fn line_end(text: &[u8], from: usize) -> usize
 fn read_line(
     r: Reading,
     line: &[u8],
-    sections: &mut [u32],
-    bytes: &mut [u8],
-    outcomes: &mut [u32],
-    functions: &mut [u32],
-    objects: &mut [u32],
-    skips: &mut [u32],
-    entry: &mut [u32],
+    sections: &mut [u32; 36],
+    bytes: &mut [u8; 393216],
+    outcomes: &mut [u32; 6144],
+    functions: &mut [u32; 3075],
+    objects: &mut [u32; 3075],
+    skips: &mut [u32; 130],
+    entry: &mut [u32; 2],
 ) -> Reading
     requires { ⌜ Fit r (now sections) (now bytes) (now outcomes) (now functions) (now objects) (now skips) (now entry) ⌝ }
     ensures { λ q. ⌜ LinePut (now (line .entry)) r q (now (sections .entry)) (now (sections .exit)) (now (bytes .entry)) (now (bytes .exit)) (now (outcomes .entry)) (now (outcomes .exit)) (now (functions .entry)) (now (functions .exit)) (now (objects .entry)) (now (objects .exit)) (now (skips .entry)) (now (skips .exit)) (now (entry .entry)) (now (entry .exit)) ⌝ }
@@ -52,13 +52,13 @@ fn read_line(
 // The lines of a text put into the lists one after the other, up to the first that is no frame or does not belong there.
 pub fn read_image(
     text: &[u8],
-    sections: &mut [u32],
-    bytes: &mut [u8],
-    outcomes: &mut [u32],
-    functions: &mut [u32],
-    objects: &mut [u32],
-    skips: &mut [u32],
-    entry: &mut [u32],
+    sections: &mut [u32; 36],
+    bytes: &mut [u8; 393216],
+    outcomes: &mut [u32; 6144],
+    functions: &mut [u32; 3075],
+    objects: &mut [u32; 3075],
+    skips: &mut [u32; 130],
+    entry: &mut [u32; 2],
 ) -> Reading
     ensures { λ r. ⌜ TextRead (now (text .entry)) r (now (sections .entry)) (now (sections .exit)) (now (bytes .entry)) (now (bytes .exit)) (now (outcomes .entry)) (now (outcomes .exit)) (now (functions .entry)) (now (functions .exit)) (now (objects .entry)) (now (objects .exit)) (now (skips .entry)) (now (skips .exit)) (now (entry .entry)) (now (entry .exit)) ⌝ }
 {

@@ -7,27 +7,24 @@ use Rattle.reading.proofs.image.put_told.Statement.{statement}
 use Rattle.reading.proofs.image.put_told.Tie as tie
 
 returns : tie.Need-returns
-returns c = let a = c .before .before .before .before .before .before .before .args in told-target (a .f) (a .r) (a .outcomes .now) _ _ (c .before .before .before .before .if1 .taken) (c .before .before .set-target .ensures)
+returns c = let a = c .before .before .before .before .args in told-target (a .f) (a .r) (a .outcomes .now) _ _ (c .before .before .if1 .taken) (c .set-target .ensures)
 
 returns-2 : tie.Need-returns-2
-returns-2 c = let a = c .before .before .before .before .before .before .before .before .before .args in told-table (a .f) (a .r) (a .outcomes .now) _ _ (c .before .before .before .before .if2 .taken) (c .before .before .set-table .ensures)
+returns-2 c = let a = c .before .before .before .before .before .before .args in told-table (a .f) (a .r) (a .outcomes .now) _ _ (c .before .before .if2 .taken) (c .set-table .ensures)
 
 add-branch-requires : tie.Need-add-branch-requires
-add-branch-requires c κs = let a = c .before .before .before .before .before .before .args in let five : a .f .kind ≡ 5 = omega arith in let h = c .before .before .before .before .before .before .pre .1 five in (c .before .before .before .before .before .before .pre .0 .3, h .0, h .1)
+add-branch-requires c κs = let a = c .before .before .before .before .before .args in let five : a .f .kind ≡ 5 = omega arith in let h = c .before .before .before .before .before .pre .1 five in (c .before .before .before .before .before .pre .0 .3, h .0, h .1)
 
 returns-3 : tie.Need-returns-3
-returns-3 c = let a = c .before .before .before .before .before .before .before .before .before .args in told-branch (a .f) (a .r) (a .outcomes .now) _ _ (omega arith) (c .before .before .add-branch .ensures)
+returns-3 c = let a = c .before .before .before .before .before .before .args in told-branch (a .f) (a .r) (a .outcomes .now) _ _ (omega arith) (c .add-branch .ensures)
 
 pub put-told-spec : {M : Type 1} → statement M
 put-told-spec =
     tie.close
     (tie.spec
     (λ c κs. search needs)
-    (λ c. search needs)
     returns
     (λ c κs. search needs)
-    (λ c. search needs)
     returns-2
     add-branch-requires
-    (λ c. search needs)
     returns-3)
