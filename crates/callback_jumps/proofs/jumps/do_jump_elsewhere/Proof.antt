@@ -4,10 +4,10 @@ use Rattle.callback_jumps.proofs.jumps.do_jump_elsewhere.Statement.{sta
 use Rattle.callback_jumps.proofs.jumps.do_jump_elsewhere.Tie as tie
 
 returns : tie.Need-returns
-returns c = λ e alike knows q. elsewhere-in _ _ _ _ e _ _ _ (c .before .before .before .before .before .before .before .before .jumps-inside .ensures e alike) _ _ _ (c .before .before .before .before .before .before .before .if1 .taken) (c .before .before .before .before .jump-inside .ensures e (alike .code))
+returns c = λ e alike knows q. elsewhere-in _ _ _ _ e _ _ _ (c .before .before .before .before .jumps-inside .ensures e alike) _ _ _ (c .before .before .before .if1 .taken) (c .jump-inside .ensures e (alike .code))
 
 returns-2 : tie.Need-returns-2
-returns-2 c = λ e alike knows q. elsewhere-out _ _ _ _ e _ _ _ (c .before .before .before .before .before .before .before .before .jumps-inside .ensures e alike) _ _ _ (c .before .before .before .before .before .before .before .if1 .left) (c .before .before .before .before .jump-outside .ensures e _ alike knows q)
+returns-2 c = λ e alike knows q. elsewhere-out _ _ _ _ e _ _ _ (c .before .before .before .before .jumps-inside .ensures e alike) _ _ _ (c .before .before .before .if1 .left) (c .jump-outside .ensures e _ alike knows q)
 
 pub do-jump-elsewhere-spec : {M : Type 1} → statement M
 do-jump-elsewhere-spec =
@@ -15,10 +15,6 @@ do-jump-elsewhere-spec =
     (tie.spec
     (λ c κs. search needs)
     (λ c κs. search needs)
-    (λ c. search needs)
-    (λ c. search needs)
     returns
     (λ c κs. search needs)
-    (λ c. search needs)
-    (λ c. search needs)
     returns-2)
