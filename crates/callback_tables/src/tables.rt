@@ -95,8 +95,8 @@ fn is_own_table(
 
 // The entries are blocks of the function, and ways on.
 fn do_own_table(
-    k: &mut [u64],
-    v: &mut [u64],
+    k: &mut [u64; 2176],
+    v: &mut [u64; 1536],
     w: walk::Walk,
     addr: u64,
     t: u64,
@@ -132,8 +132,8 @@ fn known_end(k: &[u64], v: &[u64], s: lists::Small, a: Around) -> u64
 // What was read of a table: its entries are blocks of the function, or may be.
 fn take_table(
     known: &[u64],
-    k: &mut [u64],
-    v: &mut [u64],
+    k: &mut [u64; 2176],
+    v: &mut [u64; 1536],
     a: Around,
     w: walk::Walk,
     addr: u64,
@@ -159,8 +159,8 @@ pub fn do_table(
     bytes: &[u8],
     objects: &[u32],
     known: &[u64],
-    k: &mut [u64],
-    v: &mut [u64],
+    k: &mut [u64; 2176],
+    v: &mut [u64; 1536],
     a: Around,
     w: walk::Walk,
     addr: u64,

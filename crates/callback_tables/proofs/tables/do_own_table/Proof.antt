@@ -1,4 +1,3 @@
-use mathlib.Core.Path.{_∙_}
 use mathlib.Core.Bool.{false}
 use Rattle.walk.proofs.Answers.{going-on}
 use Rattle.callback_tables.proofs.TableCases.{tables-full, blocks-full, table-owned}
@@ -7,25 +6,19 @@ use Rattle.callback_tables.proofs.tables.do_own_table.Statement.{statem
 use Rattle.callback_tables.proofs.tables.do_own_table.Tie as tie
 
 returns : tie.Need-returns
-returns c = λ e vis. tables-full e vis _ _ _ _ _ _ _ _ (c .before .before .before .before .before .before .before .wide .ensures .0) _ _ _ (c .before .before .before .before .before .before .set-table .ensures vis) (c .if1 .taken)
+returns c = λ e vis. tables-full e vis _ _ _ _ _ _ _ _ (c .before .before .before .wide .ensures .0) _ _ _ (c .before .before .set-table .ensures vis) (c .if1 .taken)
 
 mark-and-push-all-requires : tie.Need-mark-and-push-all-requires
-mark-and-push-all-requires c κs = (going-on (c .before .before .before .before .before .before .before .before .set-table .ensures (λ _. false)) (c .before .before .if1 .left), c .before .before .before .before .before .before .before .before .before .before .before .before .before .before .before .pre .1 .1)
+mark-and-push-all-requires c κs = (going-on (c .before .before .before .before .set-table .ensures (λ _. false)) (c .before .before .if1 .left), c .before .before .before .before .before .before .before .before .before .pre .1 .1)
 
 returns-2 : tie.Need-returns-2
-returns-2 c = λ e vis. blocks-full e vis _ _ _ _ _ _ _ _ (c .before .before .before .before .before .before .before .before .before .before .before .before .before .before .before .before .wide .ensures .0) _ _ _ (c .before .before .before .before .before .before .before .before .before .before .before .before .before .before .before .set-table .ensures vis) (c .before .before .before .before .before .before .before .before .before .if1 .left) _ _ _ (c .before .before .before .before .before .before .mark-and-push-all .ensures vis) (c .if2 .taken)
+returns-2 c = λ e vis. blocks-full e vis _ _ _ _ _ _ _ _ (c .before .before .before .before .before .before .before .before .wide .ensures .0) _ _ _ (c .before .before .before .before .before .before .before .set-table .ensures vis) (c .before .before .before .before .before .if1 .left) _ _ _ (c .before .before .mark-and-push-all .ensures vis) (c .if2 .taken)
 
 set-ways-requires : tie.Need-set-ways-requires
-set-ways-requires c κs = (going-on (c .before .before .before .before .before .before .before .before .mark-and-push-all .ensures (λ _. false)) (c .before .before .if2 .left), c .before .before .before .before .before .before .before .before .before .before .before .before .before .before .before .before .before .before .before .before .before .before .before .before .pre .1)
-
-same-length-5 : tie.Need-same-length-5
-same-length-5 c = (c .before .before .before .k3 .given) ∙ (c .before .before .before .before .before .before .before .before .before .before .before .before .k2 .given) ∙ (c .before .before .before .before .before .before .before .before .before .before .before .before .before .before .before .before .before .before .before .before .before .k .given)
-
-same-length-6 : tie.Need-same-length-6
-same-length-6 c = (c .before .v3 .given) ∙ (c .before .before .before .before .before .before .before .before .before .before .v2 .given) ∙ (c .before .before .before .before .before .before .before .before .before .before .before .before .before .before .before .before .before .before .before .v .given)
+set-ways-requires c κs = (going-on (c .before .before .before .before .mark-and-push-all .ensures (λ _. false)) (c .before .before .if2 .left), c .before .before .before .before .before .before .before .before .before .before .before .before .before .before .pre .1)
 
 returns-3 : tie.Need-returns-3
-returns-3 c = λ e vis. table-owned e vis _ _ _ _ _ _ _ _ (c .before .before .before .before .before .before .before .before .before .before .before .before .before .before .before .before .before .before .before .before .before .before .before .wide .ensures .0) _ _ _ (c .before .before .before .before .before .before .before .before .before .before .before .before .before .before .before .before .before .before .before .before .before .before .set-table .ensures vis) (c .before .before .before .before .before .before .before .before .before .before .before .before .before .before .before .before .if1 .left) _ _ _ (c .before .before .before .before .before .before .before .before .before .before .before .before .before .mark-and-push-all .ensures vis) _ _ _ (c .before .before .before .before .before .before .before .if2 .left) (c .before .before .before .before .set-ways .ensures vis)
+returns-3 c = λ e vis. table-owned e vis _ _ _ _ _ _ _ _ (c .before .before .before .before .before .before .before .before .before .before .before .wide .ensures .0) _ _ _ (c .before .before .before .before .before .before .before .before .before .before .set-table .ensures vis) (c .before .before .before .before .before .before .before .before .if1 .left) _ _ _ (c .before .before .before .before .before .mark-and-push-all .ensures vis) _ _ _ (c .before .before .before .if2 .left) (c .set-ways .ensures vis)
 
 pub do-own-table-spec : {M : Type 1} → statement M
 do-own-table-spec =
@@ -33,14 +26,8 @@ do-own-table-spec =
     (tie.spec
     (λ c κs. search needs)
     (λ c κs. search needs)
-    (λ c. search needs)
-    (λ c. search needs)
     returns
     mark-and-push-all-requires
-    (λ c. search needs)
-    (λ c. search needs)
     returns-2
     set-ways-requires
-    same-length-5
-    same-length-6
     returns-3)

@@ -13,7 +13,7 @@ take-table-requires : tie.Need-take-table-requires
 take-table-requires c κs = (read-fits _ _ _ _ _ _ _ _ _ (c .before .before .before .before .before .before .uniq-jump-table-entries .ensures), (c .before .before .before .before .before .before .before .before .before .before .before .before .before .before .before .before .before .pre .1 .1 .1 .1 .0, (c .before .before .before .before .before .before .before .before .before .before .before .before .before .before .before .before .before .pre .1 .1 .1 .1 .1 .0, c .before .before .before .before .before .before .before .before .before .before .before .before .before .before .before .before .before .pre .1 .1 .1 .1 .1 .1)))
 
 returns-2 : tie.Need-returns-2
-returns-2 c = λ l e vis s b o i alike knows. table-read e l i _ alike vis _ _ _ _ _ _ _ (c .before .before .before .before .before .before .before .before .before .before .before .before .before .known-end .ensures e alike) _ _ (c .before .before .before .before .before .before .before .before .before .before .before .uniq-jump-table-entries .ensures l s b o) _ _ _ (c .before .before .before .before .before .before .before .before .if1 .left) (c .before .before .before .before .take-table .ensures e vis alike knows)
+returns-2 c = λ l e vis s b o i alike knows. table-read e l i _ alike vis _ _ _ _ _ _ _ (c .before .before .before .before .before .before .before .before .before .known-end .ensures e alike) _ _ (c .before .before .before .before .before .before .before .uniq-jump-table-entries .ensures l s b o) _ _ _ (c .before .before .before .before .if1 .left) (c .take-table .ensures e vis alike knows)
 
 pub do-table-spec : {M : Type 1} → statement M
 do-table-spec =
@@ -23,11 +23,7 @@ do-table-spec =
     (λ c. search needs)
     uniq-jump-table-entries-requires
     (λ c κs. search needs)
-    (λ c. search needs)
-    (λ c. search needs)
     returns
     (λ c. search needs)
     take-table-requires
-    (λ c. search needs)
-    (λ c. search needs)
     returns-2)
