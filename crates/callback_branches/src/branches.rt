@@ -67,8 +67,8 @@ fn refers_to(
 fn do_branch(
     functions: &[u32],
     known: &[u64],
-    k: &mut [u64],
-    v: &mut [u64],
+    k: &mut [u64; 2176],
+    v: &mut [u64; 1536],
     a: Around,
     w: walk::Walk,
     link: bool,
@@ -99,8 +99,8 @@ fn branch_to(
     sections: &[u32],
     functions: &[u32],
     known: &[u64],
-    k: &mut [u64],
-    v: &mut [u64],
+    k: &mut [u64; 2176],
+    v: &mut [u64; 1536],
     a: Around,
     w: walk::Walk,
     branch: obj::outcomes::Branch,
@@ -138,8 +138,8 @@ fn branch_to(
 
 // The ways on of two branches, where there are any.
 fn set_ways(
-    k: &mut [u64],
-    v: &mut [u64],
+    k: &mut [u64; 2176],
+    v: &mut [u64; 1536],
     w: walk::Walk,
     addr: u64,
     first: bool,
@@ -168,8 +168,8 @@ pub fn do_branches(
     sections: &[u32],
     functions: &[u32],
     known: &[u64],
-    k: &mut [u64],
-    v: &mut [u64],
+    k: &mut [u64; 2176],
+    v: &mut [u64; 1536],
     a: Around,
     w: walk::Walk,
     addr: u64,

@@ -5,10 +5,10 @@ use Rattle.callback_branches.proofs.branches.do_branch.Statement.{state
 use Rattle.callback_branches.proofs.branches.do_branch.Tie as tie
 
 returns : tie.Need-returns
-returns c = (c .before .before .before .before .mark-and-push .ensures (λ _. false) .fits, λ l e vis out f code i alike knows. branch-on e vis _ _ _ _ _ _ _ _ _ out (c .before .before .before .before .before .before .before .before .refers-to .ensures l e f code i alike knows) (c .before .before .before .before .before .before .before .if1 .taken) (c .before .before .before .before .mark-and-push .ensures vis))
+returns c = (c .mark-and-push .ensures (λ _. false) .fits, λ l e vis out f code i alike knows. branch-on e vis _ _ _ _ _ _ _ _ _ out (c .before .before .before .before .refers-to .ensures l e f code i alike knows) (c .before .before .before .if1 .taken) (c .mark-and-push .ensures vis))
 
 returns-2 : tie.Need-returns-2
-returns-2 c = (c .before .before .before .before .add-reference .ensures (λ _. false) .fits, λ l e vis out f code i alike knows. branch-refers e vis _ _ _ _ _ _ _ _ _ out (c .before .before .before .before .before .before .before .before .refers-to .ensures l e f code i alike knows) (c .before .before .before .before .before .before .before .if1 .left) (c .before .before .before .before .add-reference .ensures vis))
+returns-2 c = (c .add-reference .ensures (λ _. false) .fits, λ l e vis out f code i alike knows. branch-refers e vis _ _ _ _ _ _ _ _ _ out (c .before .before .before .before .refers-to .ensures l e f code i alike knows) (c .before .before .before .if1 .left) (c .add-reference .ensures vis))
 
 pub do-branch-spec : {M : Type 1} → statement M
 do-branch-spec =
@@ -16,10 +16,6 @@ do-branch-spec =
     (tie.spec
     (λ c κs. search needs)
     (λ c κs. search needs)
-    (λ c. search needs)
-    (λ c. search needs)
     returns
     (λ c κs. search needs)
-    (λ c. search needs)
-    (λ c. search needs)
     returns-2)

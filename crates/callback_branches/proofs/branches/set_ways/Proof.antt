@@ -4,16 +4,16 @@ use Rattle.callback_branches.proofs.branches.set_ways.Statement.{statem
 use Rattle.callback_branches.proofs.branches.set_ways.Tie as tie
 
 returns : tie.Need-returns
-returns c = λ vis. both-ways vis _ _ _ _ _ _ _ _ _ _ _ (c .before .before .before .before .before .before .before .before .before .if1 .taken) (c .before .before .before .before .before .before .before .before .if2 .taken) (c .before .before .before .before .set-ways .ensures vis)
+returns c = λ vis. both-ways vis _ _ _ _ _ _ _ _ _ _ _ (c .before .before .before .before .before .if1 .taken) (c .before .before .before .before .if2 .taken) (c .set-ways .ensures vis)
 
 returns-2 : tie.Need-returns-2
-returns-2 c = λ vis. first-way vis _ _ _ _ _ _ _ _ _ _ _ (c .before .before .before .before .before .before .before .before .if1 .taken) (c .before .before .before .before .before .before .before .if2 .left) (c .before .before .before .before .set-way .ensures vis)
+returns-2 c = λ vis. first-way vis _ _ _ _ _ _ _ _ _ _ _ (c .before .before .before .before .if1 .taken) (c .before .before .before .if2 .left) (c .set-way .ensures vis)
 
 returns-3 : tie.Need-returns-3
-returns-3 c = λ vis. second-way vis _ _ _ _ _ _ _ _ _ _ _ (c .before .before .before .before .before .before .before .before .if1 .left) (c .before .before .before .before .before .before .before .if3 .taken) (c .before .before .before .before .set-way2 .ensures vis)
+returns-3 c = λ vis. second-way vis _ _ _ _ _ _ _ _ _ _ _ (c .before .before .before .before .if1 .left) (c .before .before .before .if3 .taken) (c .set-way2 .ensures vis)
 
 returns-4 : tie.Need-returns-4
-returns-4 c = λ vis. no-ways vis _ _ _ _ _ _ _ _ (c .before .before .before .before .pre) (c .before .if1 .left) (c .if3 .left)
+returns-4 c = λ vis. no-ways vis _ _ _ _ _ _ _ _ (c .before .before .pre) (c .before .if1 .left) (c .if3 .left)
 
 pub set-ways-spec : {M : Type 1} → statement M
 set-ways-spec =
@@ -21,15 +21,9 @@ set-ways-spec =
     (tie.spec
     (λ c. search needs)
     (λ c κs. search needs)
-    (λ c. search needs)
-    (λ c. search needs)
     returns
     (λ c κs. search needs)
-    (λ c. search needs)
-    (λ c. search needs)
     returns-2
     (λ c κs. search needs)
-    (λ c. search needs)
-    (λ c. search needs)
     returns-3
     returns-4)
