@@ -59,7 +59,13 @@ fn check_word(
 }
 
 // Returns are noted, and the word is no longer a possible block.
-fn note_word(k: &mut [u64], v: &mut [u64], s: lists::Small, addr: u64, word: u32) -> lists::Small
+fn note_word(
+    k: &mut [u64; 2176],
+    v: &mut [u64; 1536],
+    s: lists::Small,
+    addr: u64,
+    word: u32,
+) -> lists::Small
     requires { ⌜ Fit (now k) (now v) s × (s .fault ≡ 0) ⌝ }
     ensures { λ r. ⌜ (Fit (now (k .exit)) (now (v .exit)) r × (r .fault ≡ 0)) × ((im : images.Image) → word ≡ images.word im (address-of addr) → lists.Is (ok (rules.note-word im addr (view (now (k .entry)) (now (v .entry)) s))) (now (k .entry)) (now (k .exit)) (now (v .exit)) r) ⌝ }
 {
@@ -86,8 +92,8 @@ struct Noted {
 // Notes a word. Nothing is copied for a plain one.
 fn note(
     bytes: &[u8],
-    k: &mut [u64],
-    v: &mut [u64],
+    k: &mut [u64; 2176],
+    v: &mut [u64; 1536],
     code: obj::sections::Code,
     s: lists::Small,
     addr: u64,
@@ -124,8 +130,8 @@ fn after_block(
     objects: &[u32],
     known: &[u64],
     visited: &[u32; 2048],
-    k: &mut [u64],
-    v: &mut [u64],
+    k: &mut [u64; 2176],
+    v: &mut [u64; 1536],
     a: Around,
     w: walk::Walk,
     addr: u64,
@@ -189,8 +195,8 @@ fn do_outcome(
     objects: &[u32],
     known: &[u64],
     visited: &[u32; 2048],
-    k: &mut [u64],
-    v: &mut [u64],
+    k: &mut [u64; 2176],
+    v: &mut [u64; 1536],
     a: Around,
     w: walk::Walk,
     addr: u64,
@@ -274,8 +280,8 @@ fn meet_word(
     objects: &[u32],
     known: &[u64],
     visited: &[u32; 2048],
-    k: &mut [u64],
-    v: &mut [u64],
+    k: &mut [u64; 2176],
+    v: &mut [u64; 1536],
     a: Around,
     w: walk::Walk,
     addr: u64,
@@ -326,8 +332,8 @@ pub fn instruction_callback(
     objects: &[u32],
     known: &[u64],
     visited: &[u32; 2048],
-    k: &mut [u64],
-    v: &mut [u64],
+    k: &mut [u64; 2176],
+    v: &mut [u64; 1536],
     a: Around,
     w: walk::Walk,
     addr: u64,

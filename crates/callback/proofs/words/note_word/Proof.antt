@@ -4,10 +4,10 @@ use Rattle.callback.proofs.words.note_word.Statement.{statement}
 use Rattle.callback.proofs.words.note_word.Tie as tie
 
 discard-possible-requires : tie.Need-discard-possible-requires
-discard-possible-requires c κs = (fits-still _ _ _ _ _ (c .before .before .before .before .before .before .before .before .pre .0), c .before .before .before .before .before .before .before .before .pre .1)
+discard-possible-requires c κs = (fits-still _ _ _ _ _ (c .before .before .before .before .before .before .pre .0), c .before .before .before .before .before .before .pre .1)
 
 returns : tie.Need-returns
-returns c = ((c .before .before .before .before .discard-possible .ensures .told .fit, c .before .before .before .before .discard-possible .ensures .told .fine), λ im q. noted _ _ _ im _ _ _ _ _ _ _ (c .before .before .before .before .before .before .before .before .before .before .is-conditional-blr .ensures) (c .before .before .before .before .before .before .before .before .is-rfi .ensures) q (c .before .before .before .before .discard-possible .ensures))
+returns c = ((c .discard-possible .ensures .told .fit, c .discard-possible .ensures .told .fine), λ im q. noted _ _ _ im _ _ _ _ _ _ _ (c .before .before .before .before .before .before .is-conditional-blr .ensures) (c .before .before .before .before .is-rfi .ensures) q (c .discard-possible .ensures))
 
 pub note-word-spec : {M : Type 1} → statement M
 note-word-spec =
@@ -16,6 +16,4 @@ note-word-spec =
     (λ c κs. search needs)
     (λ c κs. search needs)
     discard-possible-requires
-    (λ c. search needs)
-    (λ c. search needs)
     returns)
