@@ -98,8 +98,6 @@ left-any c vis k v r = refl
 
 pub record Running (s b p f x n : List ℕ) (a : Around) (bits₀ k₀ v₀ : List ℕ) (w₀ : Walk) (bits k v : List ℕ) (w : Walk) : Type 0 where
   pub bits-long : length bits ≡ 2048
-  pub keys : length k ≡ length k₀
-  pub values : length v ≡ length v₀
   pub safe : Safe k v w
   pub same : (e : steps.Around) (o : Of s b f x n a e) → o .lent .outcomes ≡ p → (answer (bit bits) k v w >>= rules.run-walk e) ≡ rules.run-walk e (walk-of (bit bits₀) k₀ v₀ w₀)
 
@@ -107,7 +105,7 @@ module _ (s b p f x n : List ℕ) (a : Around) (bits₀ k₀ v₀ : List ℕ) (w
   pub running-first : length bits₀ ≡ 2048 → Going k₀ v₀ w₀ → Running s b p f x n a bits₀ k₀ v₀ w₀ bits₀ k₀ v₀ w₀
   unfolding _>>=_
   running-first h g =
-      record { bits-long = h; keys = refl; values = refl; safe = λ _. g .fits; same = λ e o q. ap (λ y. y >>= rules.run-walk e) (answer-ok (bit bits₀) k₀ v₀ w₀ (g .fine)) }
+      record { bits-long = h; safe = λ _. g .fits; same = λ e o q. ap (λ y. y >>= rules.run-walk e) (answer-ok (bit bits₀) k₀ v₀ w₀ (g .fine)) }
 
   module _ (bits k v : List ℕ) (w : Walk) (r : Running s b p f x n a bits₀ k₀ v₀ w₀ bits k v w) where
     pub running-going : alive w ≡ true → Going k v w
@@ -121,13 +119,11 @@ module _ (s b p f x n : List ℕ) (a : Around) (bits₀ k₀ v₀ : List ℕ) (w
       sound-of : (e : steps.Around) → Of s b f x n a e → Sound (e .image)
       sound-of e o = rw (o .is-image) (sound (o .lent) (o .checked))
 
-      pub running-on : LendsAll s b p f x n a → length bits′ ≡ 2048 → length k′ ≡ length k → length v′ ≡ length v → Running s b p f x n a bits₀ k₀ v₀ w₀ bits′ k′ v′ w′
+      pub running-on : LendsAll s b p f x n a → length bits′ ≡ 2048 → Running s b p f x n a bits₀ k₀ v₀ w₀ bits′ k′ v′ w′
       unfolding _>>=_
-      running-on l h lk lv =
+      running-on l h =
           record {
             bits-long = h;
-            keys = lk ∙ r .keys;
-            values = lv ∙ r .values;
             safe = step (l .around) (l .of) (l .outcomes) .fits;
             same = λ e o q.
                 ap (λ y. y >>= rules.run-walk e) (sym (step e o q .is)) ∙

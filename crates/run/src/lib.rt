@@ -76,8 +76,8 @@ fn enter(
     objects: &[u32],
     known: &[u64],
     visited: &mut [u32; 2048],
-    k: &mut [u64],
-    v: &mut [u64],
+    k: &mut [u64; 2176],
+    v: &mut [u64; 1536],
     a: callback::around::Around,
     w: walk::Walk,
 ) -> walk::Walk
@@ -134,8 +134,8 @@ fn step(
     objects: &[u32],
     known: &[u64],
     visited: &mut [u32; 2048],
-    k: &mut [u64],
-    v: &mut [u64],
+    k: &mut [u64; 2176],
+    v: &mut [u64; 1536],
     a: callback::around::Around,
     w: walk::Walk,
 ) -> walk::Walk
@@ -171,8 +171,8 @@ pub fn run_walk(
     objects: &[u32],
     known: &[u64],
     visited: &mut [u32; 2048],
-    k: &mut [u64],
-    v: &mut [u64],
+    k: &mut [u64; 2176],
+    v: &mut [u64; 1536],
     a: callback::around::Around,
     w: walk::Walk,
 ) -> walk::Walk

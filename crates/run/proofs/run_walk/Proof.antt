@@ -1,4 +1,3 @@
-use borrow.Author.Needs.{needs}
 use mathlib.Core.Path.{sym, _∙_}
 use Rattle.run.proofs.RunCases.{Running, remains, running-first, running-going, running-on, running-less, running-ends}
 use Rattle.run.proofs.run_walk.Statement.{statement}
@@ -11,25 +10,19 @@ abbrev μ-loop : tie.MeasureT-loop
 μ-loop sections bytes outcomes functions objects known visited₀ k₀ v₀ a r₀ visited k v r = remains (a .code) k v r
 
 loop-holds : tie.Need-loop-holds Inv-loop μ-loop
-loop-holds c = running-first _ _ _ _ _ _ _ _ _ _ _ (c .before .before .before .before .before .before .before .before .pre .1 .1) (c .before .before .before .before .before .before .before .before .pre .1 .0)
+loop-holds c = running-first _ _ _ _ _ _ _ _ _ _ _ (c .before .before .before .before .before .before .pre .1 .1) (c .before .before .before .before .before .before .pre .1 .0)
 
 is-alive-requires : tie.Need-is-alive-requires Inv-loop μ-loop
 is-alive-requires c κs = tt
 
 step-requires : tie.Need-step-requires Inv-loop μ-loop
-step-requires c κs = (c .before .before .before .before .before .before .before .before .before .before .before .before .before .before .pre .0, ((running-going _ _ _ _ _ _ _ _ _ _ _ _ _ _ _ (c .before .before .before .before .before .loop .inv) (sym (c .before .before .before .before .is-alive .ensures) ∙ c .before .before .before .if1 .taken), (sym (c .before .before .before .before .is-alive .ensures) ∙ c .before .before .before .if1 .taken)), c .before .before .before .before .before .loop .inv .bits-long))
+step-requires c κs = (c .before .before .before .before .before .before .before .before .before .before .before .before .pre .0, ((running-going _ _ _ _ _ _ _ _ _ _ _ _ _ _ _ (c .before .before .before .before .before .loop .inv) (sym (c .before .before .before .before .is-alive .ensures) ∙ c .before .before .before .if1 .taken), (sym (c .before .before .before .before .is-alive .ensures) ∙ c .before .before .before .if1 .taken)), c .before .before .before .before .before .loop .inv .bits-long))
 
 loop-less : tie.Need-loop-less Inv-loop μ-loop
-loop-less c = running-less _ _ _ _ _ _ _ _ _ _ _ _ _ _ _ (c .before .before .before .before .before .before .before .before .before .before .loop .inv) _ _ _ _ (sym (c .before .before .before .before .before .before .before .before .before .is-alive .ensures) ∙ c .before .before .before .before .before .before .before .before .if1 .taken) (c .before .before .before .before .step .ensures .1) (c .before .before .before .before .before .before .before .before .before .before .before .before .before .before .before .before .before .before .before .pre .0)
+loop-less c = running-less _ _ _ _ _ _ _ _ _ _ _ _ _ _ _ (c .before .before .before .before .before .before .loop .inv) _ _ _ _ (sym (c .before .before .before .before .before .is-alive .ensures) ∙ c .before .before .before .before .if1 .taken) (c .step .ensures .1) (c .before .before .before .before .before .before .before .before .before .before .before .before .before .pre .0)
 
 loop-again : tie.Need-loop-again Inv-loop μ-loop
-loop-again c = running-on _ _ _ _ _ _ _ _ _ _ _ _ _ _ _ (c .before .before .before .before .before .before .before .before .before .before .loop .inv) _ _ _ _ (sym (c .before .before .before .before .before .before .before .before .before .is-alive .ensures) ∙ c .before .before .before .before .before .before .before .before .if1 .taken) (c .before .before .before .before .step .ensures .1) (c .before .before .before .before .before .before .before .before .before .before .before .before .before .before .before .before .before .before .before .pre .0) (c .before .before .before .before .step .ensures .0) (c .before .before .before .k .given) (c .before .v .given)
-
-same-length : tie.Need-same-length Inv-loop μ-loop
-same-length c = c .before .before .loop .inv .keys
-
-same-length-2 : tie.Need-same-length-2 Inv-loop μ-loop
-same-length-2 c = c .before .before .loop .inv .values
+loop-again c = running-on _ _ _ _ _ _ _ _ _ _ _ _ _ _ _ (c .before .before .before .before .before .before .loop .inv) _ _ _ _ (sym (c .before .before .before .before .before .is-alive .ensures) ∙ c .before .before .before .before .if1 .taken) (c .step .ensures .1) (c .before .before .before .before .before .before .before .before .before .before .before .before .before .pre .0) (c .step .ensures .0)
 
 returns : tie.Need-returns Inv-loop μ-loop
 returns c = (c .before .before .loop .inv .bits-long, λ e o q. running-ends _ _ _ _ _ _ _ _ _ _ _ _ _ _ _ (c .before .before .loop .inv) e o q (sym (c .before .is-alive .ensures) ∙ c .if1 .left))
@@ -45,6 +38,4 @@ run-walk-spec =
     step-requires
     loop-less
     loop-again
-    same-length
-    same-length-2
     returns)
