@@ -59,13 +59,11 @@ module _ (s b p f x n : List ℕ) (a : Around) where
   module _ (whole step : steps.Around → steps.Walk → Answer steps.Walk) where
     pub record Passing (bits₀ k₀ v₀ : List ℕ) (w₀ : Walk) (bits k v : List ℕ) (w : Walk) : Type 0 where
       pub bits-long : length bits ≡ 2048
-      pub keys : length k ≡ length k₀
-      pub values : length v ≡ length v₀
       pub going : Going k v w
       pub same : (e : steps.Around) (o : Of s b f x n a e) → o .lent .outcomes ≡ p → whole e (walk-of (bit bits) k v w) ≡ whole e (walk-of (bit bits₀) k₀ v₀ w₀)
 
     pub passing-first : (bits k v : List ℕ) (w : Walk) → length bits ≡ 2048 → Going k v w → Passing bits k v w bits k v w
-    passing-first bits k v w h g = record { bits-long = h; keys = refl; values = refl; going = g; same = λ e o q. refl }
+    passing-first bits k v w h g = record { bits-long = h; going = g; same = λ e o q. refl }
 
     module _ (bits₀ k₀ v₀ : List ℕ) (w₀ : Walk) (bits k v : List ℕ) (w : Walk) (r : Passing bits₀ k₀ v₀ w₀ bits k v w) where
       module _ (again : (e : steps.Around) (o : Of s b f x n a e) → whole e (walk-of (bit bits) k v w) ≡ (step e (walk-of (bit bits) k v w) >>= whole e))
@@ -75,12 +73,10 @@ module _ (s b p f x n : List ℕ) (a : Around) where
             let i : Is (step e (walk-of (bit bits) k v w) >>= whole e) (bit bits′) k′ v′ w′ = stopped (bit bits′) k′ v′ w′ (whole e) (made e o q) m in
             record { is = sym (r .same e o q) ∙ again e o ∙ i .is; fits = i .fits }
 
-        pub passing-on : LendsAll s b p f x n a → w′ .small .fault ≡ 0 → length bits′ ≡ 2048 → length k′ ≡ length k → length v′ ≡ length v → Passing bits₀ k₀ v₀ w₀ bits′ k′ v′ w′
-        passing-on l z h lk lv =
+        pub passing-on : LendsAll s b p f x n a → w′ .small .fault ≡ 0 → length bits′ ≡ 2048 → Passing bits₀ k₀ v₀ w₀ bits′ k′ v′ w′
+        passing-on l z h =
             record {
               bits-long = h;
-              keys = lk ∙ r .keys;
-              values = lv ∙ r .values;
               going = record { fits = made (l .around) (l .of) (l .outcomes) .fits z; fine = z };
               same = λ e o q. sym (goes-on (bit bits′) k′ v′ w′ (whole e) (made e o q) z) ∙ sym (again e o) ∙ r .same e o q;
             }

@@ -1,4 +1,3 @@
-use borrow.Author.Needs.{needs}
 use mathlib.Core.Path.{sym, _∙_}
 use Rattle.rules.specs.Analyze as rules
 use Rattle.slices.proofs.Loops.{Passing, passes, passing-first, passing-fails, passing-on, passing-less, passing-ends, connects-again, connects-less, connects-stop}
@@ -12,37 +11,25 @@ abbrev μ-loop : tie.MeasureT-loop
 μ-loop sections bytes outcomes functions objects known visited₀ k₀ v₀ a r₀ visited k v r = passes (a .code) visited k v r
 
 loop-holds : tie.Need-loop-holds Inv-loop μ-loop
-loop-holds c = passing-first _ _ _ _ _ _ _ _ _ _ _ _ _ (c .before .before .before .before .before .before .before .before .pre .1 .1) (c .before .before .before .before .before .before .before .before .pre .1 .0)
+loop-holds c = passing-first _ _ _ _ _ _ _ _ _ _ _ _ _ (c .before .before .before .before .before .before .pre .1 .1) (c .before .before .before .before .before .before .pre .1 .0)
 
 is-disconnected-requires : tie.Need-is-disconnected-requires Inv-loop μ-loop
-is-disconnected-requires c κs = c .before .before .loop .inv .going .fits .lists
+is-disconnected-requires c κs = c .before .before .before .before .loop .inv .going .fits .lists
 
 connect-step-requires : tie.Need-connect-step-requires Inv-loop μ-loop
-connect-step-requires c κs = (c .before .before .before .before .before .before .before .before .before .before .before .before .before .before .before .before .pre .0, (c .before .before .before .before .before .before .before .loop .inv .going, c .before .before .before .before .before .before .before .loop .inv .bits-long))
-
-same-length : tie.Need-same-length Inv-loop μ-loop
-same-length c = (c .before .before .before .before .before .k .given) ∙ (c .before .before .before .before .before .before .before .before .before .before .before .before .before .before .loop .inv .keys)
-
-same-length-2 : tie.Need-same-length-2 Inv-loop μ-loop
-same-length-2 c = (c .before .before .before .v .given) ∙ (c .before .before .before .before .before .before .before .before .before .before .before .before .before .before .loop .inv .values)
+connect-step-requires c κs = (c .before .before .before .before .before .before .before .before .before .before .before .before .before .before .before .before .pre .0, (c .before .before .before .before .before .before .before .before .before .loop .inv .going, c .before .before .before .before .before .before .before .before .before .loop .inv .bits-long))
 
 returns : tie.Need-returns Inv-loop μ-loop
-returns c = let g = c .before .before .before .before .before .before .before .before .before .before .before .before .before .before .before .before .before .before .before .before .before .before .before .args in (c .before .before .before .before .before .before .connect-step .ensures .0, λ e o q. passing-fails _ _ _ _ _ _ _ _ _ _ _ _ _ _ _ _ _ (c .before .before .before .before .before .before .before .before .before .before .before .before .before .before .loop .inv) (connects-again _ _ (g .outcomes .now) _ _ _ _ _ _ _ _ (sym (c .before .before .before .before .before .before .before .before .before .before .before .is-disconnected .ensures) ∙ c .before .before .before .before .before .before .before .before .before .before .if1 .taken)) _ _ _ _ (c .before .before .before .before .before .before .connect-step .ensures .1) (c .if2 .taken) e o q)
+returns c = let g = c .before .before .before .before .before .before .before .before .before .before .before .before .before .before .before .before .before .before .before .args in (c .before .before .connect-step .ensures .0, λ e o q. passing-fails _ _ _ _ _ _ _ _ _ _ _ _ _ _ _ _ _ (c .before .before .before .before .before .before .before .before .before .before .before .before .loop .inv) (connects-again _ _ (g .outcomes .now) _ _ _ _ _ _ _ _ (sym (c .before .before .before .before .before .before .before .is-disconnected .ensures) ∙ c .before .before .before .before .before .before .if1 .taken)) _ _ _ _ (c .before .before .connect-step .ensures .1) (c .if2 .taken) e o q)
 
 loop-less : tie.Need-loop-less Inv-loop μ-loop
-loop-less c = let g = c .before .before .before .before .before .before .before .before .before .before .before .before .before .before .before .before .before .before .before .before .before .before .before .args in passing-less _ _ _ _ _ _ _ _ _ _ _ _ _ _ _ _ _ (c .before .before .before .before .before .before .before .before .before .before .before .before .before .before .loop .inv) (connects-again _ _ (g .outcomes .now) _ _ _ _ _ _ _ _ (sym (c .before .before .before .before .before .before .before .before .before .before .before .is-disconnected .ensures) ∙ c .before .before .before .before .before .before .before .before .before .before .if1 .taken)) _ _ _ _ (c .before .before .before .before .before .before .connect-step .ensures .1) (c .before .before .before .before .before .before .before .before .before .before .before .before .before .before .before .before .before .before .before .before .before .before .before .pre .0) (connects-less _ _ (g .outcomes .now) _ _ _ _ _ _ _ _ (sym (c .before .before .before .before .before .before .before .before .before .before .before .is-disconnected .ensures) ∙ c .before .before .before .before .before .before .before .before .before .before .if1 .taken)) (c .if2 .left)
+loop-less c = let g = c .before .before .before .before .before .before .before .before .before .before .before .before .before .before .before .before .before .before .before .args in passing-less _ _ _ _ _ _ _ _ _ _ _ _ _ _ _ _ _ (c .before .before .before .before .before .before .before .before .before .before .before .before .loop .inv) (connects-again _ _ (g .outcomes .now) _ _ _ _ _ _ _ _ (sym (c .before .before .before .before .before .before .before .is-disconnected .ensures) ∙ c .before .before .before .before .before .before .if1 .taken)) _ _ _ _ (c .before .before .connect-step .ensures .1) (c .before .before .before .before .before .before .before .before .before .before .before .before .before .before .before .before .before .before .before .pre .0) (connects-less _ _ (g .outcomes .now) _ _ _ _ _ _ _ _ (sym (c .before .before .before .before .before .before .before .is-disconnected .ensures) ∙ c .before .before .before .before .before .before .if1 .taken)) (c .if2 .left)
 
 loop-again : tie.Need-loop-again Inv-loop μ-loop
-loop-again c = let g = c .before .before .before .before .before .before .before .before .before .before .before .before .before .before .before .before .before .before .before .before .before .before .before .args in passing-on _ _ _ _ _ _ _ _ _ _ _ _ _ _ _ _ _ (c .before .before .before .before .before .before .before .before .before .before .before .before .before .before .loop .inv) (connects-again _ _ (g .outcomes .now) _ _ _ _ _ _ _ _ (sym (c .before .before .before .before .before .before .before .before .before .before .before .is-disconnected .ensures) ∙ c .before .before .before .before .before .before .before .before .before .before .if1 .taken)) _ _ _ _ (c .before .before .before .before .before .before .connect-step .ensures .1) (c .before .before .before .before .before .before .before .before .before .before .before .before .before .before .before .before .before .before .before .before .before .before .before .pre .0) (c .if2 .left) (c .before .before .before .before .before .before .connect-step .ensures .0) (c .before .before .before .before .before .k .given) (c .before .before .before .v .given)
-
-same-length-3 : tie.Need-same-length-3 Inv-loop μ-loop
-same-length-3 c = c .before .before .before .before .loop .inv .keys
-
-same-length-4 : tie.Need-same-length-4 Inv-loop μ-loop
-same-length-4 c = c .before .before .before .before .loop .inv .values
+loop-again c = let g = c .before .before .before .before .before .before .before .before .before .before .before .before .before .before .before .before .before .before .before .args in passing-on _ _ _ _ _ _ _ _ _ _ _ _ _ _ _ _ _ (c .before .before .before .before .before .before .before .before .before .before .before .before .loop .inv) (connects-again _ _ (g .outcomes .now) _ _ _ _ _ _ _ _ (sym (c .before .before .before .before .before .before .before .is-disconnected .ensures) ∙ c .before .before .before .before .before .before .if1 .taken)) _ _ _ _ (c .before .before .connect-step .ensures .1) (c .before .before .before .before .before .before .before .before .before .before .before .before .before .before .before .before .before .before .before .pre .0) (c .if2 .left) (c .before .before .connect-step .ensures .0)
 
 returns-2 : tie.Need-returns-2 Inv-loop μ-loop
-returns-2 c = let g = c .before .before .before .before .before .before .before .before .before .before .before .before .before .args in (c .before .before .before .before .loop .inv .bits-long, λ e o q. passing-ends _ _ _ _ _ _ _ _ _ _ _ _ _ _ _ _ _ (c .before .before .before .before .loop .inv) (connects-stop _ _ (g .outcomes .now) _ _ _ _ _ _ _ _ (sym (c .before .is-disconnected .ensures) ∙ c .if1 .left)) e o q)
+returns-2 c = let g = c .before .before .before .before .before .before .before .before .before .before .before .before .before .args in (c .before .before .before .before .before .before .loop .inv .bits-long, λ e o q. passing-ends _ _ _ _ _ _ _ _ _ _ _ _ _ _ _ _ _ (c .before .before .before .before .before .before .loop .inv) (connects-stop _ _ (g .outcomes .now) _ _ _ _ _ _ _ _ (sym (c .before .is-disconnected .ensures) ∙ c .if1 .left)) e o q)
 
 pub connect-spec : {M : Type 1} → statement M
 connect-spec =
@@ -53,11 +40,7 @@ connect-spec =
     loop-holds
     is-disconnected-requires
     connect-step-requires
-    same-length
-    same-length-2
     returns
     loop-less
     loop-again
-    same-length-3
-    same-length-4
     returns-2)
