@@ -1,6 +1,4 @@
-use Rattle.callback.proofs.Lends.{bytes-in}
 use Rattle.analyze.proofs.Reaches.{reach-one}
-use borrow.Author.Needs.{needs}
 use Rattle.analyze.proofs.reach_step.Statement.{statement}
 use Rattle.analyze.proofs.reach_step.Tie as tie
 
@@ -11,8 +9,11 @@ run-pass-requires : tie.Need-run-pass-requires
 run-pass-requires c κs = (c .before .before .before .before .before .before .before .before .before .before .before .before .before .before .pre .0, (c .before .before .before .before .before .before .before .before .before .before .before .before .before .before .pre .1 .0, c .before .before .before .before .before .before .before .before .before .before .before .before .before .before .pre .1 .1))
 
 returns : tie.Need-returns
-returns c = (c .before .before .before .before .run-pass .ensures .0, λ e o q. reach-one e _ _ _ _ _ _ _ _ _ (c .before .before .before .before .before .before .before .before .next-part .ensures _ _ _ _ e o) (c .before .before .before .before .run-pass .ensures .1 e o q))
+returns c = (c .run-pass .ensures .0, λ e o q. reach-one e _ _ _ _ _ _ _ _ _ (c .before .before .before .before .next-part .ensures _ _ _ _ e o) (c .run-pass .ensures .1 e o q))
 
 pub reach-step-spec : {M : Type 1} → statement M
 reach-step-spec =
-    tie.close (tie.spec next-part-requires run-pass-requires (λ c. search needs) (λ c. search needs) returns)
+    tie.close (tie.spec
+    next-part-requires
+    run-pass-requires
+    returns)
