@@ -11,7 +11,7 @@ returns-2 : tie.Need-returns-2
 returns-2 c = (refl, unpaired _ _ _ _ _ _ _ _ (c .before .before .before .if1 .left) _ (c .before .before .lacks-prologue .ensures) _ (c .before .if2 .taken) (c .with-fault2 .ensures))
 
 returns-3 : tie.Need-returns-3
-returns-3 c = (c .before .before .before .before .finalize-closed .ensures .0, paired _ _ _ _ _ _ _ _ (c .before .before .before .before .before .before .before .before .before .if1 .left) _ (c .before .before .before .before .before .before .before .before .lacks-prologue .ensures) _ _ _ (c .before .before .before .before .before .before .before .if2 .left) (c .before .before .before .before .finalize-closed .ensures .1))
+returns-3 c = (c .finalize-closed .ensures .0, paired _ _ _ _ _ _ _ _ (c .before .before .before .before .before .if1 .left) _ (c .before .before .before .before .lacks-prologue .ensures) _ _ _ (c .before .before .before .if2 .left) (c .finalize-closed .ensures .1))
 
 pub finalize-spec : {M : Type 1} → statement M
 finalize-spec =
@@ -23,6 +23,4 @@ finalize-spec =
     (λ c κs. search needs)
     returns-2
     (λ c κs. search needs)
-    (λ c. search needs)
-    (λ c. search needs)
     returns-3)

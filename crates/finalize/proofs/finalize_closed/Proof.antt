@@ -9,10 +9,10 @@ returns : tie.Need-returns
 returns c = (refl, open-end _ _ _ _ _ _ _ _ _ (c .before .before .last-end .ensures) _ (c .before .if1 .taken) (c .with-fault .ensures))
 
 finalize-end-requires : tie.Need-finalize-end-requires
-finalize-end-requires c κs = ((c .before .before .before .before .before .before .before .before .before .before .before .before .before .before .pre .0 .1, c .before .before .before .before .before .before .before .before .before .before .before .before .before .before .pre .0 .2), (refit _ _ _ _ refl refl refl refl refl (c .before .before .before .before .before .before .before .before .before .before .before .before .before .before .pre .1 .0), c .before .before .before .before .before .before .before .before .before .before .before .before .before .before .pre .1 .1))
+finalize-end-requires c κs = ((c .before .before .before .before .before .before .before .before .before .before .before .before .before .before .before .before .pre .0 .1, c .before .before .before .before .before .before .before .before .before .before .before .before .before .before .before .before .pre .0 .2), (refit _ _ _ _ refl refl refl refl refl (c .before .before .before .before .before .before .before .before .before .before .before .before .before .before .before .before .pre .1 .0), c .before .before .before .before .before .before .before .before .before .before .before .before .before .before .before .before .pre .1 .1))
 
 returns-2 : tie.Need-returns-2
-returns-2 c = (c .before .before .before .before .finalize-end .ensures .0, closed-end _ _ _ _ _ _ _ _ _ (c .before .before .before .before .before .before .before .before .before .before .before .last-end .ensures) _ _ _ _ (c .before .before .before .before .before .before .before .before .before .before .if1 .left) (c .before .before .before .before .before .before .before .is-conditional .ensures) (c .before .before .before .before .finalize-end .ensures .1))
+returns-2 c = (c .finalize-end .ensures .0, closed-end _ _ _ _ _ _ _ _ _ (c .before .before .before .before .before .before .before .before .before .last-end .ensures) _ _ _ _ (c .before .before .before .before .before .before .before .before .if1 .left) (c .before .before .before .is-conditional .ensures) (c .finalize-end .ensures .1))
 
 pub finalize-closed-spec : {M : Type 1} → statement M
 finalize-closed-spec =
@@ -20,11 +20,7 @@ finalize-closed-spec =
     (tie.spec
     (λ c κs. search needs)
     (λ c κs. search needs)
-    (λ c. search needs)
-    (λ c. search needs)
     returns
     (λ c κs. search needs)
     finalize-end-requires
-    (λ c. search needs)
-    (λ c. search needs)
     returns-2)
