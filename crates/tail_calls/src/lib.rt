@@ -232,7 +232,7 @@ fn judge_others(
 
 // What a trial walk from addr that met a function makes of the possible block there. One that reached back before addr: not a tail call.
 pub fn judge_trial(
-    k: &mut [u64],
+    k: &mut [u64; 2176],
     v: &[u64],
     s: lists::Small,
     tk: &[u64],
@@ -263,11 +263,11 @@ fn ends_run(n: u32) -> bool
 // What a trial walk from addr makes of the possible block there. The trial's lists have its fault, 0 where there is none, and tell
 // nothing where there is one; `found` says whether it met a function.
 pub fn judge(
-    k: &mut [u64],
+    k: &mut [u64; 2176],
     v: &[u64],
     s: lists::Small,
-    tk: &[u64],
-    tv: &[u64],
+    tk: &[u64; 2176],
+    tv: &[u64; 1536],
     t: lists::Small,
     found: bool,
     addr: u64,
