@@ -21,7 +21,7 @@ returns-3 : tie.Need-returns-3
 returns-3 c = λ e o q. let p = c .before .before .before .before .before .before .before .before .before .before .before .before .before .pre in decided _ _ _ e _ _ (c .before .before .before .check-before .ensures e (asked-of _ _ _ _ _ _ e o)) Possible answers.Possible _ (c .before .enum-told3 .given .1) refl (p .1 .0) (p .1 .1) (c .answered3 .ensures)
 
 returns-4 : tie.Need-returns-4
-returns-4 c = λ e o q. tried _ _ _ e _ _ (c .before .before .before .before .before .before .check-before .ensures e (asked-of _ _ _ _ _ _ e o)) _ _ (c .before .before .before .before .enum-told4 .given .1) (c .before .before .trial .ensures e o q)
+returns-4 c = λ e o q. tried _ _ _ e _ _ (c .before .before .before .before .check-before .ensures e (asked-of _ _ _ _ _ _ e o)) _ _ (c .before .before .enum-told4 .given .1) (c .trial .ensures e o q)
 
 pub check-tail-call-spec : {M : Type 1} → statement M
 check-tail-call-spec =
@@ -36,11 +36,7 @@ check-tail-call-spec =
     (λ c κs. search needs)
     (λ c. search needs)
     (λ c κs. search needs)
-    (λ c. search needs)
     returns
-    (λ c. search needs)
     returns-2
-    (λ c. search needs)
     returns-3
-    (λ c. search needs)
     returns-4)
