@@ -61,14 +61,12 @@ module _ (k v : List ℕ) (t : Settling) (next : ℕ) (is-next : next ≡ upper 
 
 module _ (s b p f x n : List ℕ) (a : Around) (low : ℕ) (last : Bool) where
   pub record Turning (k₀ v₀ : List ℕ) (s₀ : Small) (k v : List ℕ) (t : Settling) : Type 0 where
-    pub keys : length k ≡ length k₀
-    pub values : length v ≡ length v₀
     pub fit : Fit k v (t .small)
     pub fine : t .small .fault ≡ 0
     pub same : (e : steps.Around) (o : Of s b f x n a e) → o .lent .outcomes ≡ p → rules.settle-all e low last (settling-of k v t) ≡ rules.settle-all e low last (rules.settling (view k₀ v₀ s₀) low)
 
   pub turning-first : (k v : List ℕ) (s₀ : Small) → Fit k v s₀ → s₀ .fault ≡ 0 → Turning k v s₀ k v (record { small = s₀; current = low })
-  turning-first k v s₀ g z = record { keys = refl; values = refl; fit = g; fine = z; same = λ e o q. refl }
+  turning-first k v s₀ g z = record { fit = g; fine = z; same = λ e o q. refl }
 
   module _ (k₀ v₀ : List ℕ) (s₀ : Small) (k v : List ℕ) (t : Settling) (r : Turning k₀ v₀ s₀ k v t) (next : ℕ) (is-next : next ≡ upper self (t .current) 0 (view k v (t .small) .possible)) where
     module _ (some : next ≡ 0 → ⊥) (k′ v′ : List ℕ) (t′ : Settling) (made : (e : steps.Around) (o : Of s b f x n a e) → o .lent .outcomes ≡ p → IsSettling (rules.settle-step e low last (settling-of k v t)) k′ v′ t′) where
@@ -86,12 +84,10 @@ module _ (s b p f x n : List ℕ) (a : Around) (low : ℕ) (last : Bool) where
             fits = λ z. absurd (m z);
           }
 
-      pub turning-on : LendsAll s b p f x n a → t′ .small .fault ≡ 0 → length k′ ≡ length k → length v′ ≡ length v → Turning k₀ v₀ s₀ k′ v′ t′
+      pub turning-on : LendsAll s b p f x n a → t′ .small .fault ≡ 0 → Turning k₀ v₀ s₀ k′ v′ t′
       unfolding _>>=_
-      turning-on l z lk lv =
+      turning-on l z =
           record {
-            keys = lk ∙ r .keys;
-            values = lv ∙ r .values;
             fit = made (l .around) (l .of) (l .outcomes) .fits z;
             fine = z;
             same = λ e o q. sym (again e o ∙ ap (λ y. y >>= rules.settle-all e low last) (made e o q .is ∙ settled-ok k′ v′ t′ z)) ∙ r .same e o q;

@@ -26,8 +26,8 @@ fn include(
     functions: &[u32],
     objects: &[u32],
     known: &[u64],
-    k: &mut [u64],
-    v: &mut [u64],
+    k: &mut [u64; 2176],
+    v: &mut [u64; 1536],
     a: callback::around::Around,
     s: lists::Small,
     addr: u64,
@@ -56,7 +56,13 @@ fn include(
 }
 
 // The possible block at addr is a function of its own, which is referred to.
-fn refer(k: &mut [u64], v: &mut [u64], s: lists::Small, addr: u64, current: u64) -> Settling
+fn refer(
+    k: &mut [u64; 2176],
+    v: &mut [u64; 1536],
+    s: lists::Small,
+    addr: u64,
+    current: u64,
+) -> Settling
     requires fit { ⌜ Fit (now k) (now v) s × (s .fault ≡ 0) ⌝ }
     ensures { λ r. ⌜ IsSettling (looking (add-reference addr (discard-possible addr (view (now (k .entry)) (now (v .entry)) s))) current) (now (k .exit)) (now (v .exit)) r ⌝ }
 {
@@ -73,8 +79,8 @@ fn pass(
     functions: &[u32],
     objects: &[u32],
     known: &[u64],
-    k: &mut [u64],
-    v: &mut [u64],
+    k: &mut [u64; 2176],
+    v: &mut [u64; 1536],
     a: callback::around::Around,
     s: lists::Small,
     addr: u64,
@@ -114,8 +120,8 @@ fn settle(
     functions: &[u32],
     objects: &[u32],
     known: &[u64],
-    k: &mut [u64],
-    v: &mut [u64],
+    k: &mut [u64; 2176],
+    v: &mut [u64; 1536],
     a: callback::around::Around,
     s: lists::Small,
     addr: u64,
@@ -169,8 +175,8 @@ fn settle_step(
     functions: &[u32],
     objects: &[u32],
     known: &[u64],
-    k: &mut [u64],
-    v: &mut [u64],
+    k: &mut [u64; 2176],
+    v: &mut [u64; 1536],
     a: callback::around::Around,
     t: Settling,
     low: u64,
@@ -230,8 +236,8 @@ pub fn settle_all(
     functions: &[u32],
     objects: &[u32],
     known: &[u64],
-    k: &mut [u64],
-    v: &mut [u64],
+    k: &mut [u64; 2176],
+    v: &mut [u64; 1536],
     a: callback::around::Around,
     s: lists::Small,
     low: u64,

@@ -4,9 +4,12 @@ use Rattle.settle.proofs.refer.Statement.{statement}
 use Rattle.settle.proofs.refer.Tie as tie
 
 returns : tie.Need-returns
-returns c = referred _ _ _ _ _ _ _ (c .before .before .before .before .before .before .before .before .before .before .before .discard-possible .ensures) _ _ _ (c .before .before .before .before .add-reference .ensures) _
+returns c = referred _ _ _ _ _ _ _ (c .before .before .before .discard-possible .ensures) _ _ _ (c .add-reference .ensures) _
 
 pub refer-spec : {M : Type 1} → statement M
 refer-spec =
     tie.close
-    (tie.spec (λ c κs. search needs) (λ c κs. search needs) (λ c. search needs) (λ c. search needs) returns)
+    (tie.spec
+    (λ c κs. search needs)
+    (λ c κs. search needs)
+    returns)

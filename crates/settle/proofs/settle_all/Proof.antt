@@ -1,5 +1,4 @@
 use Rattle.settle.proofs.Turns.{Turning, left, turning-first, turning-fails, turning-on, turning-less, turning-ends}
-use mathlib.Core.Path.{_∙_}
 use Rattle.settle.proofs.settle_all.Statement.{statement}
 use Rattle.settle.proofs.settle_all.Tie as tie
 
@@ -10,37 +9,25 @@ abbrev μ-loop : tie.MeasureT-loop
 μ-loop sections bytes outcomes functions objects known k₀ v₀ a low last t₀ k v t = left k v t
 
 loop-holds : tie.Need-loop-holds Inv-loop μ-loop
-loop-holds c = let p = c .before .before .before .before .before .before .before .before .pre in turning-first _ _ _ _ _ _ _ _ _ _ _ _ (p .1 .0 .0) (p .1 .0 .1)
+loop-holds c = let p = c .before .before .before .before .before .before .pre in turning-first _ _ _ _ _ _ _ _ _ _ _ _ (p .1 .0 .0) (p .1 .0 .1)
 
 next-possible-requires : tie.Need-next-possible-requires Inv-loop μ-loop
-next-possible-requires c κs = c .before .before .loop .inv .fit
+next-possible-requires c κs = c .before .before .before .before .loop .inv .fit
 
 settle-step-requires : tie.Need-settle-step-requires Inv-loop μ-loop
-settle-step-requires c κs = let p = c .before .before .before .before .before .before .before .before .before .before .before .before .before .before .before .pre in (p .0, ((c .before .before .before .before .before .before .loop .inv .fit, c .before .before .before .before .before .before .loop .inv .fine), p .1 .1))
-
-same-length : tie.Need-same-length Inv-loop μ-loop
-same-length c = (c .before .before .before .before .before .k .given) ∙ (c .before .before .before .before .before .before .before .before .before .before .before .before .before .loop .inv .keys)
-
-same-length-2 : tie.Need-same-length-2 Inv-loop μ-loop
-same-length-2 c = (c .before .before .before .v .given) ∙ (c .before .before .before .before .before .before .before .before .before .before .before .before .before .loop .inv .values)
+settle-step-requires c κs = let p = c .before .before .before .before .before .before .before .before .before .before .before .before .before .before .before .pre in (p .0, ((c .before .before .before .before .before .before .before .before .loop .inv .fit, c .before .before .before .before .before .before .before .before .loop .inv .fine), p .1 .1))
 
 returns : tie.Need-returns Inv-loop μ-loop
-returns c = λ e o q. turning-fails _ _ _ _ _ _ _ _ _ _ _ _ _ _ _ (c .before .before .before .before .before .before .before .before .before .before .before .before .before .loop .inv) _ (c .before .before .before .before .before .before .before .before .before .before .next-possible .ensures) (c .before .before .before .before .before .before .before .before .before .if1 .taken) _ _ _ (c .before .before .before .before .before .before .settle-step .ensures) (c .if2 .taken) e o q
+returns c = λ e o q. turning-fails _ _ _ _ _ _ _ _ _ _ _ _ _ _ _ (c .before .before .before .before .before .before .before .before .before .before .before .loop .inv) _ (c .before .before .before .before .before .before .next-possible .ensures) (c .before .before .before .before .before .if1 .taken) _ _ _ (c .before .before .settle-step .ensures) (c .if2 .taken) e o q
 
 loop-less : tie.Need-loop-less Inv-loop μ-loop
-loop-less c = turning-less _ _ _ _ _ _ _ _ _ _ _ _ _ _ _ (c .before .before .before .before .before .before .before .before .before .before .before .before .before .loop .inv) _ (c .before .before .before .before .before .before .before .before .before .before .next-possible .ensures) (c .before .before .before .before .before .before .before .before .before .if1 .taken) _ _ _ (c .before .before .before .before .before .before .settle-step .ensures) (c .before .before .before .before .before .before .before .before .before .before .before .before .before .before .before .before .before .before .before .before .before .before .pre .0) (c .if2 .left)
+loop-less c = turning-less _ _ _ _ _ _ _ _ _ _ _ _ _ _ _ (c .before .before .before .before .before .before .before .before .before .before .before .loop .inv) _ (c .before .before .before .before .before .before .next-possible .ensures) (c .before .before .before .before .before .if1 .taken) _ _ _ (c .before .before .settle-step .ensures) (c .before .before .before .before .before .before .before .before .before .before .before .before .before .before .before .before .before .before .pre .0) (c .if2 .left)
 
 loop-again : tie.Need-loop-again Inv-loop μ-loop
-loop-again c = turning-on _ _ _ _ _ _ _ _ _ _ _ _ _ _ _ (c .before .before .before .before .before .before .before .before .before .before .before .before .before .loop .inv) _ (c .before .before .before .before .before .before .before .before .before .before .next-possible .ensures) (c .before .before .before .before .before .before .before .before .before .if1 .taken) _ _ _ (c .before .before .before .before .before .before .settle-step .ensures) (c .before .before .before .before .before .before .before .before .before .before .before .before .before .before .before .before .before .before .before .before .before .before .pre .0) (c .if2 .left) (c .before .before .before .before .before .k .given) (c .before .before .before .v .given)
-
-same-length-3 : tie.Need-same-length-3 Inv-loop μ-loop
-same-length-3 c = c .before .before .before .before .loop .inv .keys
-
-same-length-4 : tie.Need-same-length-4 Inv-loop μ-loop
-same-length-4 c = c .before .before .before .before .loop .inv .values
+loop-again c = turning-on _ _ _ _ _ _ _ _ _ _ _ _ _ _ _ (c .before .before .before .before .before .before .before .before .before .before .before .loop .inv) _ (c .before .before .before .before .before .before .next-possible .ensures) (c .before .before .before .before .before .if1 .taken) _ _ _ (c .before .before .settle-step .ensures) (c .before .before .before .before .before .before .before .before .before .before .before .before .before .before .before .before .before .before .pre .0) (c .if2 .left)
 
 returns-2 : tie.Need-returns-2 Inv-loop μ-loop
-returns-2 c = λ e o q. turning-ends _ _ _ _ _ _ _ _ _ _ _ _ _ _ _ (c .before .before .before .before .loop .inv) _ (c .before .next-possible .ensures) (c .if1 .left) e o q
+returns-2 c = λ e o q. turning-ends _ _ _ _ _ _ _ _ _ _ _ _ _ _ _ (c .before .before .before .before .before .before .loop .inv) _ (c .before .next-possible .ensures) (c .if1 .left) e o q
 
 pub settle-all-spec : {M : Type 1} → statement M
 settle-all-spec =
@@ -51,11 +38,7 @@ settle-all-spec =
     loop-holds
     next-possible-requires
     settle-step-requires
-    same-length
-    same-length-2
     returns
     loop-less
     loop-again
-    same-length-3
-    same-length-4
     returns-2)
