@@ -57,7 +57,13 @@ fn no_function(number: u32) -> Function
 }
 
 // An analysis is stored, if the lent list is long enough (4).
-fn finish(k: &[u64], v: &[u64], s: lists::Small, found: bool, list: &mut [u64]) -> Function
+fn finish(
+    k: &[u64; 2176],
+    v: &[u64; 1536],
+    s: lists::Small,
+    found: bool,
+    list: &mut [u64],
+) -> Function
     requires { ⌜ (s .fault ≡ 0 → Fit (now k) (now v) s) ⌝ }
     ensures { λ r. ⌜ Finished (kept-in (length (now (list .entry))) (answered (now (k .entry)) (now (v .entry)) (record { small = s; found = found }))) (now (list .entry)) (now (list .exit)) r ⌝ }
 {
