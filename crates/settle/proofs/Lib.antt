@@ -1,2 +1,3 @@
 pub mod Cases
 pub mod Turns
+pub mod Verdicts

@@ -1,4 +1,6 @@
 // Possible blocks settled, the lowest first: each is the function's, or a function of its own, or stays possible.
+mod trials;
+
 ghost use mathlib.Core.Path.{_≡_};
 ghost use mathlib.Core.Bool.{Bool};
 ghost use Prim.Native.Nat.{ℕ};

@@ -1,7 +1,7 @@
-use Rattle.trials.proofs.Verdicts.{trial-begins, trial-comes}
+use Rattle.settle.proofs.Verdicts.{trial-begins, trial-comes}
 use borrow.Author.Needs.{needs}
-use Rattle.trials.proofs.trial.Statement.{statement}
-use Rattle.trials.proofs.trial.Tie as tie
+use Rattle.settle.proofs.trials.trial.Statement.{statement}
+use Rattle.settle.proofs.trials.trial.Tie as tie
 
 analyze-requires : tie.Need-analyze-requires
 analyze-requires c κs = let p = c .before .before .before .before .before .before .before .before .before .before .before .before .before .before .before .before .pre in (p .0, trial-begins _ _ _ _ _ (c .before .before .before .before .copy-references .ensures))

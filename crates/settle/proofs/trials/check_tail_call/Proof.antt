@@ -1,12 +1,12 @@
-use Rattle.trials.proofs.Verdicts.{decided, tried}
+use Rattle.settle.proofs.Verdicts.{decided, tried}
 use Rattle.tail_calls.specs.declared.TailCall.the-variants as answers
 use Rattle.tail_calls.specs.declared.Tested.the-variants.{Not, Is, Possible}
 use Rattle.tail_calls.proofs.Cases.{asked-of}
 use Rattle.callback.proofs.Lends.{bytes-in}
 use mathlib.Core.Path.{refl}
 use borrow.Author.Needs.{needs}
-use Rattle.trials.proofs.check_tail_call.Statement.{statement}
-use Rattle.trials.proofs.check_tail_call.Tie as tie
+use Rattle.settle.proofs.trials.check_tail_call.Statement.{statement}
+use Rattle.settle.proofs.trials.check_tail_call.Tie as tie
 
 check-before-requires : tie.Need-check-before-requires
 check-before-requires c κs = let l = c .before .before .before .before .before .before .before .before .before .pre .0 in ((bytes-in _ _ _ _ _ _ _ (l .of), l .of .kept), c .before .before .before .before .before .before .before .before .before .pre .1 .0)
