@@ -2,7 +2,7 @@
 ghost use mathlib.Core.Path.{_≡_};
 ghost use mathlib.Core.List.{List};
 ghost use Prim.Native.Nat.{_≤_};
-ghost use lib.ListN.{length, take};
+ghost use lib.ListN.{length, take, drop};
 ghost use Rattle.rules.specs.Known.{Entry};
 ghost use Rattle.rules.specs.Map as rules;
 ghost use Rattle.obj_rows.specs.Skips.{Ascending};
@@ -19,8 +19,8 @@ pub struct Entries {
 // An entry in code, not skipped.
 pub fn try_add_function(
     skips: &[u32],
-    known: &mut [u64],
-    infos: &mut [u64],
+    known: &mut [u64; 2048],
+    infos: &mut [u64; 8192],
     lists: &[u64],
     code: obj::sections::Code,
     n: usize,
@@ -48,8 +48,8 @@ pub fn try_add_function(
 // The first m of the keys, one after the other.
 pub fn try_add_functions(
     skips: &[u32],
-    known: &mut [u64],
-    infos: &mut [u64],
+    known: &mut [u64; 2048],
+    infos: &mut [u64; 8192],
     lists: &[u64],
     code: obj::sections::Code,
     n: usize,
@@ -73,4 +73,27 @@ pub fn try_add_functions(
         i += 1;
     }
     r
+}
+
+// The first m of a function's references, which are part of its numbers.
+pub fn add_references(
+    skips: &[u32],
+    known: &mut [u64; 2048],
+    infos: &mut [u64; 8192],
+    lists: &[u64],
+    code: obj::sections::Code,
+    n: usize,
+    room: usize,
+    k: &[u64],
+    m: usize,
+) -> Entries
+    requires good { ⌜ Good n (now known) (now infos) (now lists) ⌝ }
+    requires order { ⌜ Ascending (now skips) ⌝ }
+    requires image { ⌜ Looking (now skips) code ⌝ }
+    requires numbers { ⌜ (length (now k) ≡ 2176) × (m ≤ length (take 256 (drop 1280 (now k)))) ⌝ }
+    ensures { λ r. ⌜ ((l : Lent) (es : List Entry) → Looks l (now (skips .entry)) code → Holds n (now (known .entry)) (now (infos .entry)) (now (lists .entry)) es → Entered (rules.try-add-functions (image l) (capacity room (now (lists .entry))) (take m (take 256 (drop 1280 (now (k .entry))))) es) (r .count) (now (known .exit)) (now (infos .exit)) (now (lists .entry)) (r .fault)) ⌝ }
+{
+    let a: usize = 1280;
+    let b: usize = 1536;
+    try_add_functions(skips, known, infos, lists, code, n, room, &k[a..b], m)
 }

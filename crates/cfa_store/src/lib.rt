@@ -12,8 +12,8 @@ use cfa_entries::Entries;
 
 // Stored with an end, 0 for none.
 fn keep(
-    known: &mut [u64],
-    infos: &mut [u64],
+    known: &mut [u64; 2048],
+    infos: &mut [u64; 8192],
     lists: &mut [u64],
     k: &[u64],
     v: &[u64],
@@ -39,11 +39,11 @@ pub fn store_final(
     sections: &[u32],
     bytes: &[u8],
     skips: &[u32],
-    known: &mut [u64],
-    infos: &mut [u64],
+    known: &mut [u64; 2048],
+    infos: &mut [u64; 8192],
     lists: &mut [u64],
-    k: &mut [u64],
-    v: &mut [u64],
+    k: &mut [u64; 2176],
+    v: &mut [u64; 1536],
     code: obj::sections::Code,
     n: usize,
     room: usize,
@@ -71,11 +71,11 @@ pub fn store_function(
     sections: &[u32],
     bytes: &[u8],
     skips: &[u32],
-    known: &mut [u64],
-    infos: &mut [u64],
+    known: &mut [u64; 2048],
+    infos: &mut [u64; 8192],
     lists: &mut [u64],
-    k: &mut [u64],
-    v: &mut [u64],
+    k: &mut [u64; 2176],
+    v: &mut [u64; 1536],
     code: obj::sections::Code,
     n: usize,
     room: usize,
@@ -87,19 +87,7 @@ pub fn store_function(
     requires image { ⌜ Shown (now sections) (now bytes) (now skips) code ⌝ }
     ensures { λ r. ⌜ ((l : Lent) (es : List Entry) → Shows l (now (sections .entry)) (now (bytes .entry)) (now (skips .entry)) code → Holds n (now (known .entry)) (now (infos .entry)) (now (lists .entry)) es → Entered (rules.store-function (image l) (capacity room (now (lists .entry))) key (view (now (k .entry)) (now (v .entry)) s) es) (r .count) (now (known .exit)) (now (infos .exit)) (now (lists .exit)) (r .fault)) ⌝ }
 {
-    let a: usize = 1280;
-    let b: usize = 1536;
-    let r = cfa_entries::try_add_functions(
-        skips,
-        known,
-        infos,
-        lists,
-        code,
-        n,
-        room,
-        &k[a..b],
-        s.references,
-    );
+    let r = cfa_entries::add_references(skips, known, infos, lists, code, n, room, k, s.references);
     if r.fault != 0 {
         return r;
     }

@@ -7,7 +7,7 @@ returns : tie.Need-returns
 returns c = λ l es q h. told-skipped l _ _ q _ _ _ es _ _ _ (c .before .before .if1 .taken) _ (c .before .in-skipped-range .ensures l (q .skips)) h (c .if2 .taken)
 
 returns-2 : tie.Need-returns-2
-returns-2 c = λ l es q h. told-added l _ _ q _ _ es _ (c .before .before .before .before .before .before .before .before .before .if1 .taken) _ (c .before .before .before .before .before .before .before .before .in-skipped-range .ensures l (q .skips)) _ _ _ (c .before .before .before .before .before .before .before .if2 .left) (c .before .before .before .before .add-entry .ensures es h)
+returns-2 c = λ l es q h. told-added l _ _ q _ _ es _ (c .before .before .before .before .before .if1 .taken) _ (c .before .before .before .before .in-skipped-range .ensures l (q .skips)) _ _ _ (c .before .before .before .if2 .left) (c .add-entry .ensures es h)
 
 returns-3 : tie.Need-returns-3
 returns-3 c = λ l es q h. told-elsewhere l _ _ q _ _ _ es _ _ _ h (c .if1 .left)
@@ -20,7 +20,5 @@ try-add-function-spec =
     (λ c κs. search needs)
     returns
     (λ c κs. search needs)
-    (λ c. search needs)
-    (λ c. search needs)
     returns-2
     returns-3)

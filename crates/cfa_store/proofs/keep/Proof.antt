@@ -3,7 +3,10 @@ use Rattle.cfa_store.proofs.keep.Statement.{statement}
 use Rattle.cfa_store.proofs.keep.Tie as tie
 
 returns : tie.Need-returns
-returns c = λ es h. record { told = c .before .before .before .before .before .before .store .ensures es h }
+returns c = λ es h. record { told = c .before .before .store .ensures es h }
 
 pub keep-spec : {M : Type 1} → statement M
-keep-spec = tie.close (tie.spec (λ c κs. search needs) (λ c. search needs) (λ c. search needs) (λ c. search needs) returns)
+keep-spec = tie.close (tie.spec
+    (λ c κs. search needs)
+    (λ c. search needs)
+    returns)
