@@ -80,8 +80,8 @@ fn new_functions(
 
 // Entries at the first m of the keys, added one after the other.
 fn add_entries(
-    known: &mut [u64],
-    infos: &mut [u64],
+    known: &mut [u64; 2048],
+    infos: &mut [u64; 8192],
     lists: &[u64],
     n: usize,
     room: usize,
@@ -119,8 +119,8 @@ pub struct Detected {
 pub fn detect_new_functions(
     bytes: &[u8],
     skips: &[u32],
-    known: &mut [u64],
-    infos: &mut [u64],
+    known: &mut [u64; 2048],
+    infos: &mut [u64; 8192],
     lists: &[u64],
     code: obj::sections::Code,
     n: usize,

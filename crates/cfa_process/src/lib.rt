@@ -1,7 +1,6 @@
 // AnalyzerState::process_function_at: an entry is walked, and stored with its lists or set aside.
 ghost use mathlib.Core.Path.{_≡_};
 ghost use mathlib.Core.List.{List, []};
-ghost use lib.ListN.{length};
 ghost use Rattle.rules.specs.Slices.{with-only};
 ghost use Rattle.rules.specs.Known.{Entry, end-of-entry};
 ghost use Rattle.rules.specs.Analyze.{analyze};
@@ -23,15 +22,14 @@ fn analyze_at(
     objects: &[u32],
     skips: &[u32],
     known: &[u64],
-    k: &mut [u64],
-    v: &mut [u64],
+    k: &mut [u64; 2176],
+    v: &mut [u64; 1536],
     code: obj::sections::Code,
     n: usize,
     key: u64,
 ) -> analyze::Analyzed
     requires image { ⌜ Displayed (now sections) (now bytes) (now outcomes) (now functions) (now objects) (now skips) code ⌝ }
     requires entries { ⌜ Knowing n (now known) ⌝ }
-    requires lent { ⌜ (length (now k) ≡ 2176) × (length (now v) ≡ 1536) ⌝ }
     ensures { λ r. ⌜ ((l : Lent) (cap : rules.Capacity) (es : List Entry) → Displays l (now (sections .entry)) (now (bytes .entry)) (now (outcomes .entry)) (now (functions .entry)) (now (objects .entry)) (now (skips .entry)) code → Knows n (now (known .entry)) es → IsAnalyzed (analyze (rules.around (image l) cap key (end-of-entry key es) es) key (with-only [])) (now (k .exit)) (now (v .exit)) r) ⌝ }
 {
     let s = lists::empty(k, v);
@@ -65,11 +63,11 @@ pub fn process_function_at(
     functions: &[u32],
     objects: &[u32],
     skips: &[u32],
-    known: &mut [u64],
-    infos: &mut [u64],
+    known: &mut [u64; 2048],
+    infos: &mut [u64; 8192],
     lists: &mut [u64],
-    k: &mut [u64],
-    v: &mut [u64],
+    k: &mut [u64; 2176],
+    v: &mut [u64; 1536],
     code: obj::sections::Code,
     n: usize,
     room: usize,
@@ -77,7 +75,6 @@ pub fn process_function_at(
 ) -> Entries
     requires image { ⌜ Displayed (now sections) (now bytes) (now outcomes) (now functions) (now objects) (now skips) code ⌝ }
     requires good { ⌜ Good n (now known) (now infos) (now lists) ⌝ }
-    requires lent { ⌜ (length (now k) ≡ 2176) × (length (now v) ≡ 1536) ⌝ }
     ensures { λ r. ⌜ ((l : Lent) (es : List Entry) → Displays l (now (sections .entry)) (now (bytes .entry)) (now (outcomes .entry)) (now (functions .entry)) (now (objects .entry)) (now (skips .entry)) code → Holds n (now (known .entry)) (now (infos .entry)) (now (lists .entry)) es → Entered (rules.process-function-at (image l) (capacity room (now (lists .entry))) key es) (r .count) (now (known .exit)) (now (infos .exit)) (now (lists .exit)) (r .fault)) ⌝ }
 {
     let r = analyze_at(

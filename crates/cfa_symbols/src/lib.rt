@@ -30,8 +30,8 @@ fn end_of(key: u64, s: Symbol) -> u64
 
 // A function symbol is an entry, with its end if the size is known.
 fn add_symbol(
-    known: &mut [u64],
-    infos: &mut [u64],
+    known: &mut [u64; 2048],
+    infos: &mut [u64; 8192],
     lists: &[u64],
     code: obj::sections::Code,
     n: usize,
@@ -54,8 +54,8 @@ fn add_symbol(
 // Each of the symbols, from no entries at all.
 fn add_symbols(
     functions: &[u32],
-    known: &mut [u64],
-    infos: &mut [u64],
+    known: &mut [u64; 2048],
+    infos: &mut [u64; 8192],
     lists: &[u64],
     code: obj::sections::Code,
     room: usize,
@@ -80,8 +80,8 @@ fn add_symbols(
 // The function symbols, and the code section's first word, which is always an entry.
 pub fn first_entries(
     functions: &[u32],
-    known: &mut [u64],
-    infos: &mut [u64],
+    known: &mut [u64; 2048],
+    infos: &mut [u64; 8192],
     lists: &[u64],
     code: obj::sections::Code,
     room: usize,

@@ -1,6 +1,5 @@
 use Rattle.cfa_detect.proofs.Adds.{Adding, adding-first, adding-ends, adding-stops, adding-on}
 use Prim.Native.Nat.{_-_}
-use mathlib.Core.Path.{sym, _∙_}
 use native.Mathlib.Omega.{arith}
 use borrow.Author.Needs.{needs}
 use Rattle.cfa_detect.proofs.add_entries.Statement.{statement}
@@ -13,31 +12,19 @@ abbrev μ-loop : tie.MeasureT-loop
 μ-loop known₀ infos₀ lists n room keys m count₀ i₀ known infos count i = m - i
 
 loop-holds : tie.Need-loop-holds Inv-loop μ-loop
-loop-holds c = adding-first _ _ _ _ _ _ _ (c .before .before .before .before .pre .0)
+loop-holds c = adding-first _ _ _ _ _ _ _ (c .before .before .pre .0)
 
 add-entry-requires : tie.Need-add-entry-requires Inv-loop μ-loop
 add-entry-requires c κs = c .before .before .before .before .loop .inv .each .good
 
-same-length : tie.Need-same-length Inv-loop μ-loop
-same-length c = c .before .before .before .before .before .known .given ∙ c .before .before .before .before .before .before .before .before .before .before .before .loop .inv .each .good .holds .kept .size ∙ sym (c .before .before .before .before .before .before .before .before .before .before .before .before .before .before .before .before .pre .0 .holds .kept .size)
-
-same-length-2 : tie.Need-same-length-2 Inv-loop μ-loop
-same-length-2 c = c .before .before .before .infos .given ∙ c .before .before .before .before .before .before .before .before .before .before .before .loop .inv .each .good .holds .lent ∙ sym (c .before .before .before .before .before .before .before .before .before .before .before .before .before .before .before .before .pre .0 .holds .lent)
-
 returns : tie.Need-returns Inv-loop μ-loop
-returns c = adding-stops _ _ _ _ _ _ _ _ _ _ _ _ (c .before .before .before .before .before .before .before .before .before .before .before .loop .inv) (c .before .before .before .before .before .before .before .before .before .before .loop-test .taken) (c .before .before .before .before .before .before .before .before .before .before .before .before .before .before .before .before .pre .1) _ _ _ _ (λ es h. c .before .before .before .before .before .before .add-entry .ensures es h .told) (c .if1 .taken)
+returns c = adding-stops _ _ _ _ _ _ _ _ _ _ _ _ (c .before .before .before .before .before .before .before .loop .inv) (c .before .before .before .before .before .before .loop-test .taken) (c .before .before .before .before .before .before .before .before .before .before .pre .1) _ _ _ _ (λ es h. c .before .before .add-entry .ensures es h .told) (c .if1 .taken)
 
 loop-less : tie.Need-loop-less Inv-loop μ-loop
-loop-less c = omega (arith, c .before .before .before .before .before .before .before .before .before .before .loop-test .taken)
+loop-less c = omega (arith, c .before .before .before .before .before .before .loop-test .taken)
 
 loop-again : tie.Need-loop-again Inv-loop μ-loop
-loop-again c = adding-on _ _ _ _ _ _ _ _ _ _ _ _ (c .before .before .before .before .before .before .before .before .before .before .before .loop .inv) (c .before .before .before .before .before .before .before .before .before .before .loop-test .taken) (c .before .before .before .before .before .before .before .before .before .before .before .before .before .before .before .before .pre .1) _ _ _ _ (λ es h. c .before .before .before .before .before .before .add-entry .ensures es h .told) (c .if1 .left)
-
-same-length-3 : tie.Need-same-length-3 Inv-loop μ-loop
-same-length-3 c = c .before .loop .inv .each .good .holds .kept .size ∙ sym (c .before .before .before .before .before .before .pre .0 .holds .kept .size)
-
-same-length-4 : tie.Need-same-length-4 Inv-loop μ-loop
-same-length-4 c = c .before .loop .inv .each .good .holds .lent ∙ sym (c .before .before .before .before .before .before .pre .0 .holds .lent)
+loop-again c = adding-on _ _ _ _ _ _ _ _ _ _ _ _ (c .before .before .before .before .before .before .before .loop .inv) (c .before .before .before .before .before .before .loop-test .taken) (c .before .before .before .before .before .before .before .before .before .before .pre .1) _ _ _ _ (λ es h. c .before .before .add-entry .ensures es h .told) (c .if1 .left)
 
 returns-2 : tie.Need-returns-2 Inv-loop μ-loop
 returns-2 c = adding-ends _ _ _ _ _ _ _ _ _ _ _ _ (c .before .loop .inv) (c .loop-test .left)
@@ -52,12 +39,8 @@ add-entries-spec =
     (λ c. search needs)
     (λ c. search needs)
     add-entry-requires
-    same-length
-    same-length-2
     returns
     (λ c. search needs)
     loop-less
     loop-again
-    same-length-3
-    same-length-4
     returns-2)

@@ -1,6 +1,5 @@
 use Rattle.cfa_entries.proofs.Keys.{Adding, adding-first, adding-ends, adding-stops, adding-on}
 use Prim.Native.Nat.{_-_}
-use mathlib.Core.Path.{sym, _∙_}
 use native.Mathlib.Omega.{arith}
 use borrow.Author.Needs.{needs}
 use Rattle.cfa_entries.proofs.try_add_functions.Statement.{statement}

@@ -4,10 +4,10 @@ use Rattle.cfa_process.proofs.analyze_at.Statement.{statement}
 use Rattle.cfa_process.proofs.analyze_at.Tie as tie
 
 analyze-requires : tie.Need-analyze-requires
-analyze-requires c κs = (lends-some _ _ _ _ _ _ _ (c .before .before .before .before .before .before .before .before .before .before .before .before .before .before .before .pre .0) _ _ (c .before .before .before .before .before .before .before .before .before .before .before .before .before .before .before .pre .1 .0) _ _ (c .before .before .end-of-entry .ensures), nothing-fits _ _ _ _ (c .before .before .before .empty .ensures))
+analyze-requires c κs = (lends-some _ _ _ _ _ _ _ (c .before .before .before .before .before .before .before .before .before .before .before .before .before .before .before .pre .0) _ _ (c .before .before .before .before .before .before .before .before .before .before .before .before .before .before .before .pre .1) _ _ (c .before .before .end-of-entry .ensures), nothing-fits _ _ _ _ (c .before .before .before .empty .ensures))
 
 returns : tie.Need-returns
-returns c = λ l cap es q h. from-nothing _ _ _ _ _ _ _ _ (c .before .before .before .before .before .before .before .before .empty .ensures) (c .before .before .before .before .analyze .ensures _ (lends l _ _ _ _ _ _ _ q cap _ _ es (c .before .before .before .before .before .before .before .before .before .before .before .before .before .before .before .before .before .before .before .before .pre .1 .0 .kept) h _ _ (c .before .before .before .before .before .before .before .end-of-entry .ensures es h)) (lends-outcomes l _ _ _ _ _ _ _ q cap _ _ es (c .before .before .before .before .before .before .before .before .before .before .before .before .before .before .before .before .before .before .before .before .pre .1 .0 .kept) h _ _ (c .before .before .before .before .before .before .before .end-of-entry .ensures es h)))
+returns c = λ l cap es q h. from-nothing _ _ _ _ _ _ _ _ (c .before .before .before .before .empty .ensures) (c .analyze .ensures _ (lends l _ _ _ _ _ _ _ q cap _ _ es (c .before .before .before .before .before .before .before .before .before .before .before .before .before .before .before .before .pre .1 .kept) h _ _ (c .before .before .before .end-of-entry .ensures es h)) (lends-outcomes l _ _ _ _ _ _ _ q cap _ _ es (c .before .before .before .before .before .before .before .before .before .before .before .before .before .before .before .before .pre .1 .kept) h _ _ (c .before .before .before .end-of-entry .ensures es h)))
 
 pub analyze-at-spec : {M : Type 1} → statement M
 analyze-at-spec =
@@ -16,6 +16,4 @@ analyze-at-spec =
     (λ c κs. search needs)
     (λ c κs. search needs)
     analyze-requires
-    (λ c. search needs)
-    (λ c. search needs)
     returns)

@@ -4,13 +4,13 @@ use Rattle.cfa_symbols.proofs.add_symbol.Statement.{statement}
 use Rattle.cfa_symbols.proofs.add_symbol.Tie as tie
 
 end-of-requires : tie.Need-end-of-requires
-end-of-requires c κs = key-low _ _ (c .before .before .before .before .before .pre .1) (c .wide .ensures .1)
+end-of-requires c κs = key-low _ _ (c .before .before .before .pre .1) (c .wide .ensures .1)
 
 set-end-requires : tie.Need-set-end-requires
-set-end-requires c κs = c .before .before .before .before .before .before .before .before .pre .0
+set-end-requires c κs = c .before .before .before .before .before .before .pre .0
 
 returns : tie.Need-returns
-returns c = λ l es q h. symbol-told l _ q (c .before .before .before .before .before .before .before .before .before .before .before .before .before .args .s) _ _ (key-at _ _ _ (c .before .before .before .before .before .before .before .before .wide .ensures .0)) (c .before .before .before .before .before .before .before .end-of .ensures) _ es _ _ _ _ _ (c .before .before .before .before .set-end .ensures es h)
+returns c = λ l es q h. symbol-told l _ q (c .before .before .before .before .before .before .before .args .s) _ _ (key-at _ _ _ (c .before .before .before .before .wide .ensures .0)) (c .before .before .before .end-of .ensures) _ es _ _ _ _ _ (c .set-end .ensures es h)
 
 pub add-symbol-spec : {M : Type 1} → statement M
 add-symbol-spec =
@@ -21,6 +21,4 @@ add-symbol-spec =
     (λ c. search needs)
     end-of-requires
     set-end-requires
-    (λ c. search needs)
-    (λ c. search needs)
     returns)
