@@ -2,7 +2,6 @@
 ghost use mathlib.Core.Path.{_≡_};
 ghost use mathlib.Core.Bool.{Bool};
 ghost use mathlib.Core.List.{List};
-ghost use lib.ListN.{length};
 ghost use Rattle.rules.specs.Choice.{ok};
 ghost use Rattle.rules.specs.Blocks.{first-start};
 ghost use Rattle.rules.specs.Slices.{Slices};
@@ -24,8 +23,8 @@ use cfa_entries::Entries;
 // What the finalized function refers to becomes an entry; then the function is stored with its end.
 fn keep_final(
     skips: &[u32],
-    known: &mut [u64],
-    infos: &mut [u64],
+    known: &mut [u64; 2048],
+    infos: &mut [u64; 8192],
     lists: &mut [u64],
     k: &[u64],
     v: &[u64],
@@ -41,19 +40,7 @@ fn keep_final(
     requires image { ⌜ Looking (now skips) code ⌝ }
     ensures { λ r. ⌜ ((l : Lent) (es : List Entry) → Looks l (now (skips .entry)) code → Holds n (now (known .entry)) (now (infos .entry)) (now (lists .entry)) es → Entered (kept (image l) (capacity room (now (lists .entry))) key (view (now (k .entry)) (now (v .entry)) s) es) (r .count) (now (known .exit)) (now (infos .exit)) (now (lists .exit)) (r .fault)) ⌝ }
 {
-    let a: usize = 1280;
-    let b: usize = 1536;
-    let r = cfa_entries::try_add_functions(
-        skips,
-        known,
-        infos,
-        lists,
-        code,
-        n,
-        room,
-        &k[a..b],
-        s.references,
-    );
+    let r = cfa_entries::add_references(skips, known, infos, lists, code, n, room, k, s.references);
     if r.fault != 0 {
         return r;
     }
@@ -70,11 +57,11 @@ fn keep_settled(
     sections: &[u32],
     bytes: &[u8],
     skips: &[u32],
-    known: &mut [u64],
-    infos: &mut [u64],
+    known: &mut [u64; 2048],
+    infos: &mut [u64; 8192],
     lists: &mut [u64],
-    k: &mut [u64],
-    v: &mut [u64],
+    k: &mut [u64; 2176],
+    v: &mut [u64; 1536],
     code: obj::sections::Code,
     n: usize,
     room: usize,
@@ -107,13 +94,12 @@ fn load_at(
     known: &[u64],
     infos: &[u64],
     lists: &[u64],
-    k: &mut [u64],
-    v: &mut [u64],
+    k: &mut [u64; 2176],
+    v: &mut [u64; 1536],
     n: usize,
     key: u64,
 ) -> lists::Small
     requires ready { ⌜ Ready n (now known) (now infos) (now lists) key ⌝ }
-    requires lent { ⌜ (length (now k) ≡ 2176) × (length (now v) ≡ 1536) ⌝ }
     ensures { λ r. ⌜ ((es : List Entry) (s : Slices) → Holds n (now (known .entry)) (now (infos .entry)) (now (lists .entry)) es → Owns es key s → Is (ok s) (now (k .entry)) (now (k .exit)) (now (v .exit)) r) ⌝ }
 {
     let a: usize = 0;
@@ -131,8 +117,8 @@ fn settle_lists(
     objects: &[u32],
     skips: &[u32],
     known: &[u64],
-    k: &mut [u64],
-    v: &mut [u64],
+    k: &mut [u64; 2176],
+    v: &mut [u64; 1536],
     code: obj::sections::Code,
     n: usize,
     key: u64,
@@ -180,11 +166,11 @@ pub fn finalize_function(
     functions: &[u32],
     objects: &[u32],
     skips: &[u32],
-    known: &mut [u64],
-    infos: &mut [u64],
+    known: &mut [u64; 2048],
+    infos: &mut [u64; 8192],
     lists: &mut [u64],
-    k: &mut [u64],
-    v: &mut [u64],
+    k: &mut [u64; 2176],
+    v: &mut [u64; 1536],
     code: obj::sections::Code,
     n: usize,
     room: usize,
@@ -194,7 +180,6 @@ pub fn finalize_function(
 ) -> Detected
     requires image { ⌜ Displayed (now sections) (now bytes) (now outcomes) (now functions) (now objects) (now skips) code ⌝ }
     requires ready { ⌜ Ready n (now known) (now infos) (now lists) key ⌝ }
-    requires lent { ⌜ (length (now k) ≡ 2176) × (length (now v) ≡ 1536) ⌝ }
     ensures { λ r. ⌜ ((l : Lent) (es : List Entry) (s : Slices) → Displays l (now (sections .entry)) (now (bytes .entry)) (now (outcomes .entry)) (now (functions .entry)) (now (objects .entry)) (now (skips .entry)) code → Holds n (now (known .entry)) (now (infos .entry)) (now (lists .entry)) es → Owns es key s → Turned (rules.finalize-function (image l) (capacity room (now (lists .entry))) last key s (rules.round changed es)) (now (known .exit)) (now (infos .exit)) (now (lists .exit)) r) ⌝ }
 {
     let s = load_at(known, infos, lists, k, v, n, key);

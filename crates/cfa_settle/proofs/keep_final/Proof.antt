@@ -4,34 +4,26 @@ use borrow.Author.Needs.{needs}
 use Rattle.cfa_settle.proofs.keep_final.Statement.{statement}
 use Rattle.cfa_settle.proofs.keep_final.Tie as tie
 
-try-add-functions-requires : tie.Need-try-add-functions-requires
-try-add-functions-requires c κs = let p = c .before .before .before .before .before .before .before .before .before .before .pre in (p .0, (p .1 .1 .0, (p .1 .1 .1, keys-fit _ _ _ (p .1 .0))))
+add-references-requires : tie.Need-add-references-requires
+add-references-requires c κs = let p = c .before .before .before .before .before .before .before .pre in (p .0, (p .1 .1 .0, (p .1 .1 .1, (p .1 .0 .keys, keys-fit _ _ _ (p .1 .0)))))
 
 returns : tie.Need-returns
-returns c = λ l es q h. refers-fail l _ _ _ _ (c .before .before .before .before .before .before .before .before .before .before .before .before .before .before .before .before .before .pre .1 .0) es _ _ _ _ _ (c .before .before .before .before .before .before .try-add-functions .ensures l es q h) _ (c .if1 .taken)
+returns c = λ l es q h. refers-fail l _ _ _ _ (c .before .before .before .before .before .before .before .before .before .before .pre .1 .0) es _ _ _ _ _ (c .before .before .add-references .ensures l es q h) _ (c .if1 .taken)
 
 store-requires : tie.Need-store-requires
-store-requires c κs = let p = c .before .before .before .before .before .before .before .before .before .before .before .before .before .before .before .before .before .before .before .before .before .pre in (good-then (p .1 .1 .1 .lent) _ _ _ _ (p .1 .0) (p .0 .entries) _ _ _ _ _ (c .before .before .before .before .before .before .before .before .before .before .try-add-functions .ensures (p .1 .1 .1 .lent) (p .0 .entries) (p .1 .1 .1 .looks) (p .0 .holds)) (c .before .before .before .before .if1 .left), p .1 .0)
+store-requires c κs = let p = c .before .before .before .before .before .before .before .before .before .before .before .before .before .before .pre in (good-then (p .1 .1 .1 .lent) _ _ _ _ (p .1 .0) (p .0 .entries) _ _ _ _ _ (c .before .before .before .before .before .before .add-references .ensures (p .1 .1 .1 .lent) (p .0 .entries) (p .1 .1 .1 .looks) (p .0 .holds)) (c .before .before .before .before .if1 .left), p .1 .0)
 
 returns-2 : tie.Need-returns-2
-returns-2 c = λ l es q h. refers-kept l _ _ _ _ (c .before .before .before .before .before .before .before .before .before .before .before .before .before .before .before .before .before .before .before .before .before .before .before .before .before .before .before .before .pre .1 .0) es _ _ _ _ _ (c .before .before .before .before .before .before .before .before .before .before .before .before .before .before .before .before .before .try-add-functions .ensures l es q h) (c .before .before .before .before .before .before .before .before .before .before .before .if1 .left) _ _ _ _ _ _ _ (c .before .before .before .before .before .before .before .before .before .before .last-end .ensures) (c .before .before .before .before .before .before .store .ensures _ (added l _ _ _ _ (c .before .before .before .before .before .before .before .before .before .before .before .before .before .before .before .before .before .before .before .before .before .before .before .before .before .before .before .before .pre .1 .0) es _ _ _ _ _ (c .before .before .before .before .before .before .before .before .before .before .before .before .before .before .before .before .before .try-add-functions .ensures l es q h) (c .before .before .before .before .before .before .before .before .before .before .before .if1 .left) .holds))
+returns-2 c = λ l es q h. refers-kept l _ _ _ _ (c .before .before .before .before .before .before .before .before .before .before .before .before .before .before .before .before .before .pre .1 .0) es _ _ _ _ _ (c .before .before .before .before .before .before .before .before .before .add-references .ensures l es q h) (c .before .before .before .before .before .before .before .if1 .left) _ _ _ _ _ _ _ (c .before .before .before .before .before .before .last-end .ensures) (c .before .before .store .ensures _ (added l _ _ _ _ (c .before .before .before .before .before .before .before .before .before .before .before .before .before .before .before .before .before .pre .1 .0) es _ _ _ _ _ (c .before .before .before .before .before .before .before .before .before .add-references .ensures l es q h) (c .before .before .before .before .before .before .before .if1 .left) .holds))
 
 pub keep-final-spec : {M : Type 1} → statement M
 keep-final-spec =
     tie.close
     (tie.spec
-    (λ c. search needs)
-    (λ c. search needs)
-    (λ c. search needs)
-    (λ c. search needs)
-    try-add-functions-requires
-    (λ c. search needs)
-    (λ c. search needs)
+    add-references-requires
     (λ c. search needs)
     returns
     (λ c κs. search needs)
     store-requires
-    (λ c. search needs)
-    (λ c. search needs)
     (λ c. search needs)
     returns-2)

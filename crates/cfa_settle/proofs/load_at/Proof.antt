@@ -8,15 +8,15 @@ use Rattle.cfa_settle.proofs.load_at.Tie as tie
 
 find-requires : tie.Need-find-requires
 unfolding part
-find-requires c κs = let a = c .before .before .before .before .before .before .args in find-fits (a .n) (a .known .now) (c .before .before .before .before .before .before .pre .0 .holds .kept)
+find-requires c κs = let a = c .before .before .before .before .args in find-fits (a .n) (a .known .now) (c .before .before .before .before .pre .holds .kept)
 
 load-requires : tie.Need-load-requires
 unfolding part
-load-requires c κs = let p = c .before .before .before .before .before .before .before .before .before .pre in ((good-of _ _ _ _ _ (p .0), ready-below _ _ _ _ _ _ (c .before .before .find .ensures) (p .0)), p .1)
+load-requires c κs = let p = c .before .before .before .before .before .before .before .pre in ((good-of _ _ _ _ _ p, ready-below _ _ _ _ _ _ (c .before .before .find .ensures) p), (search needs, search needs))
 
 returns : tie.Need-returns
 unfolding part
-returns c = λ es s h o. c .before .before .before .before .load .ensures es s h (at-lists _ _ _ _ _ _ (c .before .before .before .before .before .before .before .find .ensures) es h s o)
+returns c = λ es s h o. c .load .ensures es s h (at-lists _ _ _ _ _ _ (c .before .before .before .find .ensures) es h s o)
 
 pub load-at-spec : {M : Type 1} → statement M
 load-at-spec =
@@ -28,6 +28,4 @@ load-at-spec =
     (λ c. search needs)
     find-requires
     load-requires
-    (λ c. search needs)
-    (λ c. search needs)
     returns)
