@@ -128,16 +128,14 @@ module _ (s b o f x sk : List ℕ) (c : Code) (n₀ : ℕ) (known₀ infos₀ li
     pub waits : All (Waits entries) left
     pub same : rules.finalize-each (image l) (capacity room lists₀) last left (rules.round ch entries) ≡ whole l es₀
 
-  pub record Turning (i n : ℕ) (ch : Bool) (known infos lists k v : List ℕ) : Type 0 where
+  pub record Turning (i n : ℕ) (ch : Bool) (known infos lists : List ℕ) : Type 0 where
     pub some : i ≤ m
     pub size : length lists ≡ length lists₀
-    pub long-keys : length k ≡ 2176
-    pub long-values : length v ≡ 1536
     pub now : (l : Lent) (es₀ : List Entry) → Displays l s b o f x sk c → Holds n₀ known₀ infos₀ lists₀ es₀ → Now l es₀ i n ch known infos lists
 
-  pub turning-first : (k v : List ℕ) → Near n₀ known₀ infos₀ lists₀ → length k ≡ 2176 → length v ≡ 1536 → ((es : List Entry) → Holds n₀ known₀ infos₀ lists₀ es → take m keys ≡ map entryOf (filter is-unfinalized es)) → Turning 0 n₀ false known₀ infos₀ lists₀ k v
+  pub turning-first : Near n₀ known₀ infos₀ lists₀ → ((es : List Entry) → Holds n₀ known₀ infos₀ lists₀ es → take m keys ≡ map entryOf (filter is-unfinalized es)) → Turning 0 n₀ false known₀ infos₀ lists₀
   unfolding rules.finalize-functions
-  turning-first k v near lk lv g = record { some = omega arith; size = refl; long-keys = lk; long-values = lv; now = λ l es₀ q h. start l es₀ h }
+  turning-first near g = record { some = omega arith; size = refl; now = λ l es₀ q h. start l es₀ h }
     where
       start : (l : Lent) (es₀ : List Entry) → Holds n₀ known₀ infos₀ lists₀ es₀ → Now l es₀ 0 n₀ false known₀ infos₀ lists₀
       start l es₀ h =
@@ -151,13 +149,7 @@ module _ (s b o f x sk : List ℕ) (c : Code) (n₀ : ℕ) (known₀ infos₀ li
             same = refl;
           }
 
-  module _ (i n : ℕ) (ch : Bool) (known infos lists k v : List ℕ) (a : Turning i n ch known infos lists k v) where
-    -- the entries that there are
-    pub turning-held : Displayed s b o f x sk c → Near n₀ known₀ infos₀ lists₀ → (length known ≡ 2048) × (length infos ≡ 8192)
-    turning-held d near =
-        let w : Now (d .lent) (near .entries) i n ch known infos lists = a .now (d .lent) (near .entries) (d .displays) (near .holds) in
-        (w .holds .kept .size, w .holds .lent)
-
+  module _ (i n : ℕ) (ch : Bool) (known infos lists : List ℕ) (a : Turning i n ch known infos lists) where
     pub turning-ends : m ≤ i → (l : Lent) (es₀ : List Entry) → Displays l s b o f x sk c → Holds n₀ known₀ infos₀ lists₀ es₀ → IsRound (rules.finalize-functions (image l) (capacity room lists₀) last es₀) known infos lists (record { count = n; changed = ch; fault = 0 })
     turning-ends le l es₀ q h =
         let w : Now l es₀ i n ch known infos lists = a .now l es₀ q h in
@@ -212,5 +204,5 @@ module _ (s b o f x sk : List ℕ) (c : Code) (n₀ : ℕ) (known₀ infos₀ li
               same = sym (ap (λ (y : Answer rules.Round). y >>= λ u. rules.finalize-each (image l) (capacity room lists₀) last (h .rest) u) (t .is)) ∙ h .same;
             }
 
-        pub turning-on : r .fault ≡ 0 → (k′ v′ : List ℕ) → length lists′ ≡ length lists → length k′ ≡ length k → length v′ ≡ length v → Turning (i + 1) (r .count) (r .changed) known′ infos′ lists′ k′ v′
-        turning-on z k′ v′ el ek ev = record { some = omega arith; size = el ∙ a .size; long-keys = ek ∙ a .long-keys; long-values = ev ∙ a .long-values; now = next-now z }
+        pub turning-on : r .fault ≡ 0 → length lists′ ≡ length lists → Turning (i + 1) (r .count) (r .changed) known′ infos′ lists′
+        turning-on z el = record { some = omega arith; size = el ∙ a .size; now = next-now z }

@@ -57,11 +57,11 @@ fn finalize_each(
     functions: &[u32],
     objects: &[u32],
     skips: &[u32],
-    known: &mut [u64],
-    infos: &mut [u64],
+    known: &mut [u64; 2048],
+    infos: &mut [u64; 8192],
     lists: &mut [u64],
-    k: &mut [u64],
-    v: &mut [u64],
+    k: &mut [u64; 2176],
+    v: &mut [u64; 1536],
     code: obj::sections::Code,
     n: usize,
     room: usize,
@@ -71,7 +71,6 @@ fn finalize_each(
 ) -> Detected
     requires image { ⌜ Displayed (now sections) (now bytes) (now outcomes) (now functions) (now objects) (now skips) code ⌝ }
     requires near { ⌜ Near n (now known) (now infos) (now lists) ⌝ }
-    requires lent { ⌜ (length (now k) ≡ 2176) × (length (now v) ≡ 1536) ⌝ }
     requires keys { ⌜ (m ≤ 1024) × (m ≤ length (now keys)) × ((es : List Entry) → Holds n (now known) (now infos) (now lists) es → take m (now keys) ≡ map entryOf (filter is-unfinalized es)) ⌝ }
     ensures { λ r. ⌜ ((l : Lent) (es : List Entry) → Displays l (now (sections .entry)) (now (bytes .entry)) (now (outcomes .entry)) (now (functions .entry)) (now (objects .entry)) (now (skips .entry)) code → Holds n (now (known .entry)) (now (infos .entry)) (now (lists .entry)) es → IsRound (rules.finalize-functions (image l) (capacity room (now (lists .entry))) last es) (now (known .exit)) (now (infos .exit)) (now (lists .exit)) r) ⌝ }
 {
@@ -121,11 +120,11 @@ pub fn finalize_functions(
     functions: &[u32],
     objects: &[u32],
     skips: &[u32],
-    known: &mut [u64],
-    infos: &mut [u64],
+    known: &mut [u64; 2048],
+    infos: &mut [u64; 8192],
     lists: &mut [u64],
-    k: &mut [u64],
-    v: &mut [u64],
+    k: &mut [u64; 2176],
+    v: &mut [u64; 1536],
     code: obj::sections::Code,
     n: usize,
     room: usize,
@@ -134,7 +133,6 @@ pub fn finalize_functions(
     requires image { ⌜ Displayed (now sections) (now bytes) (now outcomes) (now functions) (now objects) (now skips) code ⌝ }
     requires good { ⌜ Good n (now known) (now infos) (now lists) ⌝ }
     requires near { ⌜ Near n (now known) (now infos) (now lists) ⌝ }
-    requires lent { ⌜ (length (now k) ≡ 2176) × (length (now v) ≡ 1536) ⌝ }
     ensures { λ r. ⌜ ((l : Lent) (es : List Entry) → Displays l (now (sections .entry)) (now (bytes .entry)) (now (outcomes .entry)) (now (functions .entry)) (now (objects .entry)) (now (skips .entry)) code → Holds n (now (known .entry)) (now (infos .entry)) (now (lists .entry)) es → IsRound (rules.finalize-functions (image l) (capacity room (now (lists .entry))) last es) (now (known .exit)) (now (infos .exit)) (now (lists .exit)) r) ⌝ }
 {
     let mut keys: [u64; 1024] = [0; 1024];
