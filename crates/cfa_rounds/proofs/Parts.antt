@@ -26,7 +26,7 @@ use Rattle.cfa_rounds.proofs.Steps.{checked}
 pub fit-each : (l : Lent) (cap : Capacity) (keys : List ℕ) (es : List Entry) → Fit l cap 0 (turn-of keys 0 es)
 fit-each l cap keys es = record { leads = λ n. absurd (n refl); quiet = λ z. absurd (omega (arith, z)) }
 
-pub fit-rounds : (l : Lent) (cap : Capacity) (stop s : ℕ) → (s ≡ 1 → ⊥) → (es : List Entry) → Sane l es → Fit l cap stop (turn-of [] s es)
+fit-rounds : (l : Lent) (cap : Capacity) (stop s : ℕ) → (s ≡ 1 → ⊥) → (es : List Entry) → Sane l es → Fit l cap stop (turn-of [] s es)
 fit-rounds l cap stop s n es t = record { leads = λ _. loops.good t; quiet = λ e. absurd (n e) }
 
 module _ (s b o f x sk : List ℕ) (c : Code) (cap : Capacity) (n : ℕ) (known infos lists : List ℕ) where
@@ -34,9 +34,15 @@ module _ (s b o f x sk : List ℕ) (c : Code) (cap : Capacity) (n : ℕ) (known 
   begin-each keys d g few =
       record { lent = d .lent; displays = d .displays; entries = g .entries; holds = g .holds; fit = fit-each (d .lent) cap keys (g .entries); fine = refl; few = few; most = omega arith; other = λ e. omega (arith, e) }
 
-  pub begin-rounds : (stop i : ℕ) → stop ≤ 3 → (stop ≡ 1 → ⊥) → (i ≡ 1 → ⊥) → Ready s b o f x sk c n known infos lists → Running s b o f x sk c cap [] stop (record { count = n; at = 0; stage = i; fault = 0 }) known infos lists
+  begin-rounds : (stop i : ℕ) → stop ≤ 3 → (stop ≡ 1 → ⊥) → (i ≡ 1 → ⊥) → Ready s b o f x sk c n known infos lists → Running s b o f x sk c cap [] stop (record { count = n; at = 0; stage = i; fault = 0 }) known infos lists
   begin-rounds stop i most other first g =
       record { lent = g .lent; displays = g .displays; entries = g .entries; holds = g .holds; fit = fit-rounds (g .lent) cap stop i first (g .entries) (g .sane); fine = refl; few = omega arith; most = most; other = other }
+
+  pub rounds-begin : Ready s b o f x sk c n known infos lists → Running s b o f x sk c cap [] 2 (record { count = n; at = 0; stage = 0; fault = 0 }) known infos lists
+  rounds-begin = begin-rounds 2 0 (omega arith) (λ e. omega (arith, e)) (λ e. omega (arith, e))
+
+  pub last-begin : Ready s b o f x sk c n known infos lists → Running s b o f x sk c cap [] 3 (record { count = n; at = 0; stage = 2; fault = 0 }) known infos lists
+  last-begin = begin-rounds 3 2 (omega arith) (λ e. omega (arith, e)) (λ e. omega (arith, e))
 
 -- ---- what each comes to
 
@@ -59,8 +65,12 @@ module _ (s b o f x sk : List ℕ) (c : Code) (l : Lent) (q : Displays l s b o f
     pub each-is : (keys : List ℕ) → Entered (rest (image l) cap 0 (turn-of keys 0 es)) n known infos lists m → Entered (rules.process-each (image l) cap keys es) n known infos lists m
     each-is keys e = subst (λ (a : Answer (List Entry)). Entered a n known infos lists m) (each-rest keys es) e
 
-    pub rounds-are : Entered (rest (image l) cap 2 (turn-of [] 0 es)) n known infos lists m → Entered (rules.process-functions (image l) cap es) n known infos lists m
-    rounds-are e = subst (λ (a : Answer (List Entry)). Entered a n known infos lists m) (rounds-rest es) e
+    -- turns from a stage on, not 1, up to another, where they come to this answer
+    rounds-come : (stop i : ℕ) (a : Answer (List Entry)) → (i ≡ 1 → ⊥) → rest-with (image l) cap stop [] i es ≡ a → Sane l es → (Fit l cap stop (turn-of [] i es) → Entered (rest (image l) cap stop (turn-of [] i es)) n known infos lists m) → Entered a n known infos lists m
+    rounds-come stop i a first e t made = subst (λ (b : Answer (List Entry)). Entered b n known infos lists m) e (made (fit-rounds l cap stop i first es t))
 
-    pub last-are : Entered (rest (image l) cap 3 (turn-of [] 2 es)) n known infos lists m → Entered (rules.last-rounds (image l) cap es) n known infos lists m
-    last-are e = subst (λ (a : Answer (List Entry)). Entered a n known infos lists m) (last-rest es) e
+    pub rounds-are : Sane l es → (Fit l cap 2 (turn-of [] 0 es) → Entered (rest (image l) cap 2 (turn-of [] 0 es)) n known infos lists m) → Entered (rules.process-functions (image l) cap es) n known infos lists m
+    rounds-are = rounds-come 2 0 _ (λ e. omega (arith, e)) (rounds-rest es)
+
+    pub last-are : Sane l es → (Fit l cap 3 (turn-of [] 2 es) → Entered (rest (image l) cap 3 (turn-of [] 2 es)) n known infos lists m) → Entered (rules.last-rounds (image l) cap es) n known infos lists m
+    last-are = rounds-come 3 2 _ (λ e. omega (arith, e)) (last-rest es)

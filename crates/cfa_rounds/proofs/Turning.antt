@@ -157,7 +157,7 @@ is-over at n s stop h = by (ltb at n) (ltb s stop) refl refl h
     by false true e i h = absurd (false≢true (sym h))
     by false false e i h = (ltb-false at n e, ltb-false s stop i)
 
-module _ (s b o f x sk : List ℕ) (c : Code) (cap : Capacity) (keys : List ℕ) (stop : ℕ) (r₀ : Run) (known₀ infos₀ lists₀ k₀ v₀ : List ℕ) where
+module _ (s b o f x sk : List ℕ) (c : Code) (cap : Capacity) (keys : List ℕ) (stop : ℕ) (r₀ : Run) (known₀ infos₀ lists₀ : List ℕ) where
   -- what the turns come to from a run on
   abbrev Whole : Lent → Run → List Entry → Answer (List Entry)
   Whole l r es = rest (image l) cap stop (turn-of (drop (r .at) keys) (r .stage) es)
@@ -169,28 +169,20 @@ module _ (s b o f x sk : List ℕ) (c : Code) (cap : Capacity) (keys : List ℕ)
     pub fit : Fit l cap stop (turn-of (drop (r .at) keys) (r .stage) entries)
     pub same : Whole l r entries ≡ Whole l r₀ es₀
 
-  pub record Turning (known infos lists k v : List ℕ) (r : Run) : Type 0 where
-    pub knowns : length known ≡ length known₀
-    pub rows : length infos ≡ length infos₀
+  pub record Turning (known infos lists : List ℕ) (r : Run) : Type 0 where
     pub size : length lists ≡ length lists₀
-    pub keys-long : length k ≡ length k₀
-    pub values-long : length v ≡ length v₀
     pub running : Running s b o f x sk c cap keys stop r known infos lists
     pub now : (l : Lent) (es₀ : List Entry) → Displays l s b o f x sk c → Holds (r₀ .count) known₀ infos₀ lists₀ es₀ → Fit l cap stop (turn-of (drop (r₀ .at) keys) (r₀ .stage) es₀) → Now l es₀ known infos lists r
 
-  pub turning-first : Running s b o f x sk c cap keys stop r₀ known₀ infos₀ lists₀ → Turning known₀ infos₀ lists₀ k₀ v₀ r₀
+  pub turning-first : Running s b o f x sk c cap keys stop r₀ known₀ infos₀ lists₀ → Turning known₀ infos₀ lists₀ r₀
   turning-first g =
       record {
-        knowns = refl;
-        rows = refl;
         size = refl;
-        keys-long = refl;
-        values-long = refl;
         running = g;
         now = λ l es₀ q h t. record { entries = es₀; holds = h; fit = t; same = refl };
       }
 
-  module _ (known infos lists k v : List ℕ) (r : Run) (a : Turning known infos lists k v r) where
+  module _ (known infos lists : List ℕ) (r : Run) (a : Turning known infos lists r) where
     pub turning-ends : length keys ≤ r .at → stop ≤ r .stage → (l : Lent) (es₀ : List Entry) → Displays l s b o f x sk c → Holds (r₀ .count) known₀ infos₀ lists₀ es₀ → Fit l cap stop (turn-of (drop (r₀ .at) keys) (r₀ .stage) es₀) →
         Entered (Whole l r₀ es₀) (r .count) known infos lists (r .fault)
     turning-ends d h l es₀ q g t =
@@ -246,16 +238,12 @@ module _ (s b o f x sk : List ℕ) (c : Code) (cap : Capacity) (keys : List ℕ)
               same = ap (rest (image l) cap stop) (at-turn l (w .entries) d) ∙ sym (same-here l es₀ q w ∙ ap (λ (y : Answer Turn). y >>= rest (image l) cap stop) (d .is));
             }
 
-        pub turning-on : r′ .fault ≡ 0 → (k′ v′ : List ℕ) → length known′ ≡ length known → length infos′ ≡ length infos → length lists′ ≡ length lists → length k′ ≡ length k → length v′ ≡ length v → Turning known′ infos′ lists′ k′ v′ r′
-        turning-on z k′ v′ ek ei el eq ev =
+        pub turning-on : r′ .fault ≡ 0 → length lists′ ≡ length lists → Turning known′ infos′ lists′ r′
+        turning-on z el =
             let g : Running s b o f x sk c cap keys stop r known infos lists = a .running in
             let d : Went (turn (image (g .lent)) cap (turn-of (drop (r .at) keys) (r .stage) (g .entries))) keys known′ infos′ lists′ r′ = going z (g .lent) (g .entries) (g .displays) (g .holds) in
             record {
-              knowns = ek ∙ a .knowns;
-              rows = ei ∙ a .rows;
               size = el ∙ a .size;
-              keys-long = eq ∙ a .keys-long;
-              values-long = ev ∙ a .values-long;
               running = record { lent = g .lent; displays = g .displays; entries = d .to .entries; holds = d .holds; fit = fit-then (g .lent) (g .displays) (g .entries) (g .fit) d; fine = z; few = g .few; most = g .most; other = g .other };
               now = next z;
             }

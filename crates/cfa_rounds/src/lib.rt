@@ -35,18 +35,17 @@ fn no_entry(
     functions: &[u32],
     objects: &[u32],
     skips: &[u32],
-    known: &mut [u64],
-    infos: &mut [u64],
+    known: &mut [u64; 2048],
+    infos: &mut [u64; 8192],
     lists: &mut [u64],
-    k: &mut [u64],
-    v: &mut [u64],
+    k: &mut [u64; 2176],
+    v: &mut [u64; 1536],
     code: obj::sections::Code,
     n: usize,
     room: usize,
     stage: u32,
 ) -> Detected
     requires ready { ⌜ Ready (now sections) (now bytes) (now outcomes) (now functions) (now objects) (now skips) code n (now known) (now infos) (now lists) ⌝ }
-    requires lent { ⌜ (length (now k) ≡ 2176) × (length (now v) ≡ 1536) ⌝ }
     ensures { λ r. ⌜ ((l : Lent) (es : List Entry) → Displays l (now (sections .entry)) (now (bytes .entry)) (now (outcomes .entry)) (now (functions .entry)) (now (objects .entry)) (now (skips .entry)) code → Holds n (now (known .entry)) (now (infos .entry)) (now (lists .entry)) es → IsRound (no-entry (image l) (capacity room (now (lists .entry))) stage es) (now (known .exit)) (now (infos .exit)) (now (lists .exit)) r) ⌝ }
 {
     if stage == 1 {
@@ -90,18 +89,17 @@ fn take_round(
     functions: &[u32],
     objects: &[u32],
     skips: &[u32],
-    known: &mut [u64],
-    infos: &mut [u64],
+    known: &mut [u64; 2048],
+    infos: &mut [u64; 8192],
     lists: &mut [u64],
-    k: &mut [u64],
-    v: &mut [u64],
+    k: &mut [u64; 2176],
+    v: &mut [u64; 1536],
     code: obj::sections::Code,
     n: usize,
     room: usize,
     stage: u32,
 ) -> Detected
     requires ready { ⌜ Ready (now sections) (now bytes) (now outcomes) (now functions) (now objects) (now skips) code n (now known) (now infos) (now lists) ⌝ }
-    requires lent { ⌜ (length (now k) ≡ 2176) × (length (now v) ≡ 1536) ⌝ }
     ensures { λ r. ⌜ ((l : Lent) (es : List Entry) → Displays l (now (sections .entry)) (now (bytes .entry)) (now (outcomes .entry)) (now (functions .entry)) (now (objects .entry)) (now (skips .entry)) code → Holds n (now (known .entry)) (now (infos .entry)) (now (lists .entry)) es → IsRound (take-round (image l) (capacity room (now (lists .entry))) stage (next-key (image l) (capacity room (now (lists .entry))) stage es) es) (now (known .exit)) (now (infos .exit)) (now (lists .exit)) r) ⌝ }
 {
     let key = next_key(known, infos, lists, n, stage);
@@ -167,11 +165,11 @@ pub fn turn(
     functions: &[u32],
     objects: &[u32],
     skips: &[u32],
-    known: &mut [u64],
-    infos: &mut [u64],
+    known: &mut [u64; 2048],
+    infos: &mut [u64; 8192],
     lists: &mut [u64],
-    k: &mut [u64],
-    v: &mut [u64],
+    k: &mut [u64; 2176],
+    v: &mut [u64; 1536],
     code: obj::sections::Code,
     room: usize,
     keys: &[u64],
@@ -179,7 +177,6 @@ pub fn turn(
 ) -> Run
     requires image { ⌜ Displayed (now sections) (now bytes) (now outcomes) (now functions) (now objects) (now skips) code ⌝ }
     requires good { ⌜ Good (run .count) (now known) (now infos) (now lists) ⌝ }
-    requires lent { ⌜ (length (now k) ≡ 2176) × (length (now v) ≡ 1536) ⌝ }
     requires keys { ⌜ length (now keys) ≤ 1025 ⌝ }
     requires free { ⌜ (length (now keys) ≤ run .at → Ready (now sections) (now bytes) (now outcomes) (now functions) (now objects) (now skips) code (run .count) (now known) (now infos) (now lists) × (run .stage ≤ 2)) ⌝ }
     ensures { λ r. ⌜ ((l : Lent) (es : List Entry) → Displays l (now (sections .entry)) (now (bytes .entry)) (now (outcomes .entry)) (now (functions .entry)) (now (objects .entry)) (now (skips .entry)) code → Holds (run .count) (now (known .entry)) (now (infos .entry)) (now (lists .entry)) es → IsTurn (turn (image l) (capacity room (now (lists .entry))) (turn-of (drop (run .at) (now (keys .entry))) (run .stage) es)) (now (keys .entry)) (now (known .exit)) (now (infos .exit)) (now (lists .exit)) r) ⌝ }
@@ -243,11 +240,11 @@ fn take_turns(
     functions: &[u32],
     objects: &[u32],
     skips: &[u32],
-    known: &mut [u64],
-    infos: &mut [u64],
+    known: &mut [u64; 2048],
+    infos: &mut [u64; 8192],
     lists: &mut [u64],
-    k: &mut [u64],
-    v: &mut [u64],
+    k: &mut [u64; 2176],
+    v: &mut [u64; 1536],
     code: obj::sections::Code,
     room: usize,
     keys: &[u64],
@@ -255,7 +252,6 @@ fn take_turns(
     stop: u32,
 ) -> Run
     requires running { ⌜ Running (now sections) (now bytes) (now outcomes) (now functions) (now objects) (now skips) code (capacity room (now lists)) (now keys) stop run (now known) (now infos) (now lists) ⌝ }
-    requires lent { ⌜ (length (now k) ≡ 2176) × (length (now v) ≡ 1536) ⌝ }
     ensures { λ r. ⌜ ((l : Lent) (es : List Entry) → Displays l (now (sections .entry)) (now (bytes .entry)) (now (outcomes .entry)) (now (functions .entry)) (now (objects .entry)) (now (skips .entry)) code → Holds (run .count) (now (known .entry)) (now (infos .entry)) (now (lists .entry)) es → Fit l (capacity room (now (lists .entry))) stop (turn-of (drop (run .at) (now (keys .entry))) (run .stage) es) → Entered (rest (image l) (capacity room (now (lists .entry))) stop (turn-of (drop (run .at) (now (keys .entry))) (run .stage) es)) (r .count) (now (known .exit)) (now (infos .exit)) (now (lists .exit)) (r .fault)) ⌝ }
 {
     let mut r = run;
@@ -292,11 +288,11 @@ pub fn process_each(
     functions: &[u32],
     objects: &[u32],
     skips: &[u32],
-    known: &mut [u64],
-    infos: &mut [u64],
+    known: &mut [u64; 2048],
+    infos: &mut [u64; 8192],
     lists: &mut [u64],
-    k: &mut [u64],
-    v: &mut [u64],
+    k: &mut [u64; 2176],
+    v: &mut [u64; 1536],
     code: obj::sections::Code,
     n: usize,
     room: usize,
@@ -304,7 +300,6 @@ pub fn process_each(
 ) -> Entries
     requires image { ⌜ Displayed (now sections) (now bytes) (now outcomes) (now functions) (now objects) (now skips) code ⌝ }
     requires good { ⌜ Good n (now known) (now infos) (now lists) ⌝ }
-    requires lent { ⌜ (length (now k) ≡ 2176) × (length (now v) ≡ 1536) ⌝ }
     requires keys { ⌜ length (now keys) ≤ 1025 ⌝ }
     ensures { λ r. ⌜ ((l : Lent) (es : List Entry) → Displays l (now (sections .entry)) (now (bytes .entry)) (now (outcomes .entry)) (now (functions .entry)) (now (objects .entry)) (now (skips .entry)) code → Holds n (now (known .entry)) (now (infos .entry)) (now (lists .entry)) es → Entered (rules.process-each (image l) (capacity room (now (lists .entry))) (now (keys .entry)) es) (r .count) (now (known .exit)) (now (infos .exit)) (now (lists .exit)) (r .fault)) ⌝ }
 {
@@ -345,17 +340,16 @@ pub fn process_functions(
     functions: &[u32],
     objects: &[u32],
     skips: &[u32],
-    known: &mut [u64],
-    infos: &mut [u64],
+    known: &mut [u64; 2048],
+    infos: &mut [u64; 8192],
     lists: &mut [u64],
-    k: &mut [u64],
-    v: &mut [u64],
+    k: &mut [u64; 2176],
+    v: &mut [u64; 1536],
     code: obj::sections::Code,
     n: usize,
     room: usize,
 ) -> Entries
     requires ready { ⌜ Ready (now sections) (now bytes) (now outcomes) (now functions) (now objects) (now skips) code n (now known) (now infos) (now lists) ⌝ }
-    requires lent { ⌜ (length (now k) ≡ 2176) × (length (now v) ≡ 1536) ⌝ }
     ensures { λ r. ⌜ ((l : Lent) (es : List Entry) → Displays l (now (sections .entry)) (now (bytes .entry)) (now (outcomes .entry)) (now (functions .entry)) (now (objects .entry)) (now (skips .entry)) code → Holds n (now (known .entry)) (now (infos .entry)) (now (lists .entry)) es → Sane l es → Entered (rules.process-functions (image l) (capacity room (now (lists .entry))) es) (r .count) (now (known .exit)) (now (infos .exit)) (now (lists .exit)) (r .fault)) ⌝ }
 {
     let keys: [u64; 0] = [];
@@ -396,17 +390,16 @@ pub fn last_rounds(
     functions: &[u32],
     objects: &[u32],
     skips: &[u32],
-    known: &mut [u64],
-    infos: &mut [u64],
+    known: &mut [u64; 2048],
+    infos: &mut [u64; 8192],
     lists: &mut [u64],
-    k: &mut [u64],
-    v: &mut [u64],
+    k: &mut [u64; 2176],
+    v: &mut [u64; 1536],
     code: obj::sections::Code,
     n: usize,
     room: usize,
 ) -> Entries
     requires ready { ⌜ Ready (now sections) (now bytes) (now outcomes) (now functions) (now objects) (now skips) code n (now known) (now infos) (now lists) ⌝ }
-    requires lent { ⌜ (length (now k) ≡ 2176) × (length (now v) ≡ 1536) ⌝ }
     ensures { λ r. ⌜ ((l : Lent) (es : List Entry) → Displays l (now (sections .entry)) (now (bytes .entry)) (now (outcomes .entry)) (now (functions .entry)) (now (objects .entry)) (now (skips .entry)) code → Holds n (now (known .entry)) (now (infos .entry)) (now (lists .entry)) es → Sane l es → Entered (rules.last-rounds (image l) (capacity room (now (lists .entry))) es) (r .count) (now (known .exit)) (now (infos .exit)) (now (lists .exit)) (r .fault)) ⌝ }
 {
     let keys: [u64; 0] = [];

@@ -5,16 +5,16 @@ use Rattle.cfa_rounds.proofs.no_entry.Statement.{statement}
 use Rattle.cfa_rounds.proofs.no_entry.Tie as tie
 
 detect-new-functions-requires : tie.Need-detect-new-functions-requires
-detect-new-functions-requires c κs = let g = c .before .before .before .before .before .before .before .before .before .before .before .before .before .before .before .pre .0 in (looks-in _ _ _ _ _ _ _ _ _ _ _ g, (number-low _ _ _ _ _ _ _ _ _ _ _ g, good _ _ _ _ _ _ _ _ _ _ _ g))
+detect-new-functions-requires c κs = let g = c .before .before .before .before .before .before .before .before .before .before .before .pre in (looks-in _ _ _ _ _ _ _ _ _ _ _ g, (number-low _ _ _ _ _ _ _ _ _ _ _ g, good _ _ _ _ _ _ _ _ _ _ _ g))
 
 returns : tie.Need-returns
-returns c = λ l es q h. none-finds (image l) _ es _ _ _ _ _ (c .before .before .before .before .before .before .before .before .if1 .taken) (c .before .before .before .before .detect-new-functions .ensures l es (looks-of _ _ _ _ _ _ _ l q) h)
+returns c = λ l es q h. none-finds (image l) _ es _ _ _ _ _ (c .before .before .before .before .if1 .taken) (c .detect-new-functions .ensures l es (looks-of _ _ _ _ _ _ _ l q) h)
 
 finalize-functions-requires : tie.Need-finalize-functions-requires
-finalize-functions-requires c κs = let p = c .before .before .before .before .before .before .before .before .before .before .before .before .before .before .before .before .before .pre in let g = p .0 in (displayed _ _ _ _ _ _ _ _ _ _ _ g, (good _ _ _ _ _ _ _ _ _ _ _ g, (near _ _ _ _ _ _ _ _ _ _ _ g, p .1)))
+finalize-functions-requires c κs = let g = c .before .before .before .before .before .before .before .before .before .before .before .before .before .pre in (displayed _ _ _ _ _ _ _ _ _ _ _ g, (good _ _ _ _ _ _ _ _ _ _ _ g, near _ _ _ _ _ _ _ _ _ _ _ g))
 
 returns-2 : tie.Need-returns-2
-returns-2 c = λ l es q h. none-finalizes (image l) _ es _ _ _ _ _ (c .before .before .before .before .before .before .before .before .before .before .before .before .before .before .before .before .if1 .left) (c .before .before .before .before .before .before .before .before .before .before .finalize-functions .ensures l es q h)
+returns-2 c = λ l es q h. none-finalizes (image l) _ es _ _ _ _ _ (c .before .before .before .before .before .before .before .before .if1 .left) (c .before .before .finalize-functions .ensures l es q h)
 
 pub no-entry-spec : {M : Type 1} → statement M
 no-entry-spec =
@@ -22,13 +22,7 @@ no-entry-spec =
     (tie.spec
     detect-new-functions-requires
     (λ c. search needs)
-    (λ c. search needs)
-    (λ c. search needs)
     returns
     finalize-functions-requires
-    (λ c. search needs)
-    (λ c. search needs)
-    (λ c. search needs)
-    (λ c. search needs)
     (λ c. search needs)
     returns-2)

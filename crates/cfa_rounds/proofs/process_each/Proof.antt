@@ -1,29 +1,16 @@
 use Rattle.entries.specs.Table.{capacity}
 use Rattle.cfa_rounds.proofs.Parts.{fit-each, begin-each, each-is}
-use borrow.Author.Needs.{needs}
 use Rattle.cfa_rounds.proofs.process_each.Statement.{statement}
 use Rattle.cfa_rounds.proofs.process_each.Tie as tie
 
 take-turns-requires : tie.Need-take-turns-requires
-take-turns-requires c κs = let p = c .before .before .before .before .before .before .before .before .before .before .before .before .before .before .before .before .before .pre in (begin-each _ _ _ _ _ _ _ _ _ _ _ _ _ (p .0) (p .1 .0) (p .1 .1 .1), p .1 .1 .0)
+take-turns-requires c κs = let p = c .before .before .before .before .before .before .before .before .before .before .before .before .before .pre in begin-each _ _ _ _ _ _ _ _ _ _ _ _ _ (p .0) (p .1 .0) (p .1 .1)
 
 same-length : tie.Need-same-length
-same-length c = c .before .before .before .before .before .before .before .before .before .known .given
-
-same-length-2 : tie.Need-same-length-2
-same-length-2 c = c .before .before .before .before .before .before .before .infos .given
-
-same-length-3 : tie.Need-same-length-3
-same-length-3 c = c .before .before .before .before .before .lists .given
-
-same-length-4 : tie.Need-same-length-4
-same-length-4 c = c .before .before .before .k .given
-
-same-length-5 : tie.Need-same-length-5
-same-length-5 c = c .before .v .given
+same-length c = c .before .lists .given
 
 returns : tie.Need-returns
-returns c = let a = c .before .before .before .before .before .before .before .before .before .before .before .before .before .before .before .before .before .before .before .before .before .before .before .before .before .before .before .before .args in λ l es q h. each-is _ _ _ _ _ _ _ l q (capacity (a .room) (a .lists .now)) es _ _ _ _ _ (a .keys .now) (c .before .before .before .before .before .before .before .before .before .before .take-turns .ensures l es q h (fit-each l (capacity (a .room) (a .lists .now)) (a .keys .now) es))
+returns c = let a = c .before .before .before .before .before .before .before .before .before .before .before .before .before .before .before .before .args in λ l es q h. each-is _ _ _ _ _ _ _ l q (capacity (a .room) (a .lists .now)) es _ _ _ _ _ (a .keys .now) (c .before .before .take-turns .ensures l es q h (fit-each l (capacity (a .room) (a .lists .now)) (a .keys .now) es))
 
 pub process-each-spec : {M : Type 1} → statement M
 process-each-spec =
@@ -31,8 +18,4 @@ process-each-spec =
     (tie.spec
     take-turns-requires
     same-length
-    same-length-2
-    same-length-3
-    same-length-4
-    same-length-5
     returns)

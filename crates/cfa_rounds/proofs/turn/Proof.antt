@@ -6,52 +6,28 @@ use Rattle.cfa_rounds.proofs.turn.Statement.{statement}
 use Rattle.cfa_rounds.proofs.turn.Tie as tie
 
 process-function-at-requires : tie.Need-process-function-at-requires
-process-function-at-requires c κs = let p = c .before .before .before .before .before .before .before .before .before .before .before .before .before .before .before .before .before .before .before .pre in (p .0, (p .1 .0, p .1 .1 .0))
+process-function-at-requires c κs = let p = c .before .before .before .before .before .before .before .before .before .before .before .before .before .before .before .pre in (p .0, p .1 .0)
 
-add-t31 : tie.Need-add-t31
-add-t31 c = omega (arith, c .before .before .before .before .before .before .before .before .before .before .before .before .before .before .before .before .before .if1 .taken, c .before .before .before .before .before .before .before .before .before .before .before .before .before .before .before .before .before .before .before .before .before .before .before .before .before .before .before .before .before .before .pre .1 .1 .1 .0)
+add-t27 : tie.Need-add-t27
+add-t27 c = omega (arith, c .before .before .before .before .before .before .before .before .before .if1 .taken, c .before .before .before .before .before .before .before .before .before .before .before .before .before .before .before .before .before .before .pre .1 .1 .0)
 
 same-length : tie.Need-same-length
-same-length c = c .before .before .before .before .before .before .before .before .before .known .given
-
-same-length-2 : tie.Need-same-length-2
-same-length-2 c = c .before .before .before .before .before .before .before .infos .given
-
-same-length-3 : tie.Need-same-length-3
-same-length-3 c = c .before .before .before .before .before .lists .given
-
-same-length-4 : tie.Need-same-length-4
-same-length-4 c = c .before .before .before .k .given
-
-same-length-5 : tie.Need-same-length-5
-same-length-5 c = c .before .v .given
+same-length c = c .before .lists .given
 
 returns : tie.Need-returns
-returns c = λ l es q h. turn-walks _ _ _ _ (image l) _ es _ _ (c .before .before .before .before .before .before .before .before .before .before .before .before .before .before .before .before .before .if1 .taken) _ _ (c .before .before .before .before .before .before .before .before .before .before .process-function-at .ensures l es q h)
+returns c = λ l es q h. turn-walks _ _ _ _ (image l) _ es _ _ (c .before .before .before .before .before .before .before .before .before .if1 .taken) _ _ (c .before .before .process-function-at .ensures l es q h)
 
 take-round-requires : tie.Need-take-round-requires
-take-round-requires c κs = let p = c .before .before .before .before .before .before .before .before .before .before .before .before .before .before .before .before .before .before .pre in (p .1 .1 .1 .1 (c .before .before .before .before .before .if1 .left) .0, p .1 .1 .0)
+take-round-requires c κs = let p = c .before .before .before .before .before .before .before .before .before .before .before .before .before .before .pre in p .1 .1 .1 (c .before .before .before .before .before .if1 .left) .0
 
 next-stage-requires : tie.Need-next-stage-requires
-next-stage-requires c κs = c .before .before .before .before .before .before .before .before .before .before .before .before .before .before .before .before .before .before .before .before .before .before .before .before .before .before .before .before .before .pre .1 .1 .1 .1 (c .before .before .before .before .before .before .before .before .before .before .before .before .before .before .before .before .if1 .left) .1
+next-stage-requires c κs = c .before .before .before .before .before .before .before .before .before .before .before .before .before .before .before .before .before .pre .1 .1 .1 (c .before .before .before .before .before .before .before .before .if1 .left) .1
 
-same-length-6 : tie.Need-same-length-6
-same-length-6 c = c .before .before .before .before .before .before .before .before .before .before .known2 .given
-
-same-length-7 : tie.Need-same-length-7
-same-length-7 c = c .before .before .before .before .before .before .before .before .infos2 .given
-
-same-length-8 : tie.Need-same-length-8
-same-length-8 c = c .before .before .before .before .before .before .lists2 .given
-
-same-length-9 : tie.Need-same-length-9
-same-length-9 c = c .before .before .before .before .k2 .given
-
-same-length-10 : tie.Need-same-length-10
-same-length-10 c = c .before .before .v2 .given
+same-length-2 : tie.Need-same-length-2
+same-length-2 c = c .before .before .lists2 .given
 
 returns-2 : tie.Need-returns-2
-returns-2 c = λ l es q h. turn-rounds _ _ _ _ (image l) _ es _ _ (c .before .before .before .before .before .before .before .before .before .before .before .before .before .before .before .before .before .if1 .left) _ _ (c .next-stage .ensures) (c .before .before .before .before .before .before .before .before .before .before .before .take-round .ensures l es q h)
+returns-2 c = λ l es q h. turn-rounds _ _ _ _ (image l) _ es _ _ (c .before .before .before .before .before .before .before .before .before .if1 .left) _ _ (c .next-stage .ensures) (c .before .before .before .take-round .ensures l es q h)
 
 pub turn-spec : {M : Type 1} → statement M
 turn-spec =
@@ -60,18 +36,10 @@ turn-spec =
     (λ c. search needs)
     (λ c. search needs)
     process-function-at-requires
-    add-t31
+    add-t27
     same-length
-    same-length-2
-    same-length-3
-    same-length-4
-    same-length-5
     returns
     take-round-requires
     next-stage-requires
-    same-length-6
-    same-length-7
-    same-length-8
-    same-length-9
-    same-length-10
+    same-length-2
     returns-2)
