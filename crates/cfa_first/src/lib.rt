@@ -34,18 +34,17 @@ fn process_given(
     objects: &[u32],
     skips: &[u32],
     entry: &[u32],
-    known: &mut [u64],
-    infos: &mut [u64],
+    known: &mut [u64; 2048],
+    infos: &mut [u64; 8192],
     lists: &mut [u64],
-    k: &mut [u64],
-    v: &mut [u64],
+    k: &mut [u64; 2176],
+    v: &mut [u64; 1536],
     code: obj::sections::Code,
     n: usize,
     room: usize,
 ) -> Entries
     requires image { ⌜ Displayed (now sections) (now bytes) (now outcomes) (now functions) (now objects) (now skips) code ⌝ }
     requires good { ⌜ Good n (now known) (now infos) (now lists) ⌝ }
-    requires lent { ⌜ (length (now k) ≡ 2176) × (length (now v) ≡ 1536) ⌝ }
     ensures { λ r. ⌜ ((l : Lent) (es : List Entry) → Displays l (now (sections .entry)) (now (bytes .entry)) (now (outcomes .entry)) (now (functions .entry)) (now (objects .entry)) (now (skips .entry)) code → l .entry ≡ now (entry .entry) → Holds n (now (known .entry)) (now (infos .entry)) (now (lists .entry)) es → Entered (process-given (image l) (capacity room (now (lists .entry))) es) (r .count) (now (known .exit)) (now (infos .exit)) (now (lists .exit)) (r .fault)) ⌝ }
 {
     let mut keys: [u64; 1025] = [0; 1025];
@@ -79,17 +78,16 @@ pub fn walk_given(
     objects: &[u32],
     skips: &[u32],
     entry: &[u32],
-    known: &mut [u64],
-    infos: &mut [u64],
+    known: &mut [u64; 2048],
+    infos: &mut [u64; 8192],
     lists: &mut [u64],
-    k: &mut [u64],
-    v: &mut [u64],
+    k: &mut [u64; 2176],
+    v: &mut [u64; 1536],
     code: obj::sections::Code,
     room: usize,
 ) -> Entries
     requires image { ⌜ Displayed (now sections) (now bytes) (now outcomes) (now functions) (now objects) (now skips) code ⌝ }
     requires sizes { ⌜ (length (now known) ≡ 2048) × (length (now infos) ≡ 8192) ⌝ }
-    requires lent { ⌜ (length (now k) ≡ 2176) × (length (now v) ≡ 1536) ⌝ }
     ensures { λ r. ⌜ ((l : Lent) → Displays l (now (sections .entry)) (now (bytes .entry)) (now (outcomes .entry)) (now (functions .entry)) (now (objects .entry)) (now (skips .entry)) code → l .entry ≡ now (entry .entry) → Entered (rules.walk-given (image l) (capacity room (now (lists .entry)))) (r .count) (now (known .exit)) (now (infos .exit)) (now (lists .exit)) (r .fault)) ⌝ }
 {
     let r = cfa_symbols::first_entries(functions, known, infos, lists, code, room);
