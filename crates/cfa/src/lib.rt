@@ -53,17 +53,16 @@ fn finish_rounds(
     functions: &[u32],
     objects: &[u32],
     skips: &[u32],
-    known: &mut [u64],
-    infos: &mut [u64],
+    known: &mut [u64; 2048],
+    infos: &mut [u64; 8192],
     lists: &mut [u64],
-    k: &mut [u64],
-    v: &mut [u64],
+    k: &mut [u64; 2176],
+    v: &mut [u64; 1536],
     code: obj::sections::Code,
     n: usize,
     room: usize,
 ) -> Entries
     requires ready { ⌜ Ready (now sections) (now bytes) (now outcomes) (now functions) (now objects) (now skips) code n (now known) (now infos) (now lists) ⌝ }
-    requires lent { ⌜ (length (now k) ≡ 2176) × (length (now v) ≡ 1536) ⌝ }
     ensures { λ r. ⌜ ((l : Lent) (es : List Entry) → Displays l (now (sections .entry)) (now (bytes .entry)) (now (outcomes .entry)) (now (functions .entry)) (now (objects .entry)) (now (skips .entry)) code → Holds n (now (known .entry)) (now (infos .entry)) (now (lists .entry)) es → Sane l es → Entered (finished (image l) (capacity room (now (lists .entry))) es) (r .count) (now (known .exit)) (now (infos .exit)) (now (lists .exit)) (r .fault)) ⌝ }
 {
     let r = cfa_rounds::process_functions(
@@ -116,17 +115,16 @@ fn detect(
     objects: &[u32],
     skips: &[u32],
     entry: &[u32],
-    known: &mut [u64],
-    infos: &mut [u64],
+    known: &mut [u64; 2048],
+    infos: &mut [u64; 8192],
     lists: &mut [u64],
-    k: &mut [u64],
-    v: &mut [u64],
+    k: &mut [u64; 2176],
+    v: &mut [u64; 1536],
     code: obj::sections::Code,
     room: usize,
 ) -> Entries
     requires image { ⌜ Handed (now sections) (now bytes) (now outcomes) (now functions) (now objects) (now skips) code (now entry) ⌝ }
     requires sizes { ⌜ (length (now known) ≡ 2048) × (length (now infos) ≡ 8192) ⌝ }
-    requires lent { ⌜ (length (now k) ≡ 2176) × (length (now v) ≡ 1536) ⌝ }
     ensures { λ r. ⌜ ((l : Lent) → Displays l (now (sections .entry)) (now (bytes .entry)) (now (outcomes .entry)) (now (functions .entry)) (now (objects .entry)) (now (skips .entry)) code → l .entry ≡ now (entry .entry) → Entered (rules.detect (image l) (capacity room (now (lists .entry)))) (r .count) (now (known .exit)) (now (infos .exit)) (now (lists .exit)) (r .fault)) ⌝ }
 {
     let r = cfa_first::walk_given(
@@ -167,7 +165,13 @@ fn detect(
 }
 
 // The map that the slices hold put into the lent lists, or zeros where there is a fault.
-fn put_map(known: &[u64], infos: &[u64], r: Entries, rows: &mut [u64], lists: &mut [u64]) -> Map
+fn put_map(
+    known: &[u64; 2048],
+    infos: &[u64; 8192],
+    r: Entries,
+    rows: &mut [u64],
+    lists: &mut [u64],
+) -> Map
     requires ended { ⌜ Ended (r .count) (now known) (now infos) (now lists) (now rows) (r .fault) ⌝ }
     ensures { λ q. ⌜ ((a : Answer (List Entry)) → Met a → Entered a (r .count) (now (known .entry)) (now (infos .entry)) (now (lists .entry)) (r .fault) → Leaves a (now (rows .entry)) (now (lists .entry)) (now (rows .exit)) (now (lists .exit)) q) ⌝ }
 {

@@ -14,10 +14,10 @@ returns : tie.Need-returns
 returns c = λ a m e. left-zero _ _ _ _ _ (c .before .before .before .before .before .before .before .before .if1 .taken) _ _ (c .before .before .before .before .before .before .clear .ensures) (c .before .before .clear2 .ensures) a m e
 
 put-results-requires : tie.Need-put-results-requires
-put-results-requires c κs = let g = c .before .before .before .before .before .before .before .before .pre in let z = c .before .before .if1 .left in (g .good z, g .room z)
+put-results-requires c κs = let g = c .before .before .before .before .before .before .before .before .pre in let z = c .before .before .before .before .if1 .left in (g .good z, g .room z)
 
 returns-2 : tie.Need-returns-2
-returns-2 c = λ a m e. left-map _ _ _ _ _ (c .before .before .before .before .before .before .before .if1 .left) _ _ _ (c .before .before .before .before .put-results .ensures) a m e
+returns-2 c = λ a m e. left-map _ _ _ _ _ (c .before .before .before .before .before .before .before .before .before .if1 .left) _ _ _ (c .before .before .before .before .put-results .ensures) a m e
 
 pub put-map-spec : {M : Type 1} → statement M
 put-map-spec =
