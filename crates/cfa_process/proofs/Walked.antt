@@ -22,7 +22,7 @@ use Rattle.analyze.specs.Analysis.{answered, IsAnalyzed}
 use Rattle.analyze.specs.declared.Analyzed.{Analyzed}
 use Rattle.entries.specs.Table.{Told}
 use Rattle.cfa_entries.specs.Adding.{Entered}
-use Rattle.cfa_store.specs.Shown.{Shown}
+use Rattle.cfa_process.specs.Shown.{Shown}
 use Rattle.cfa_process.specs.Displayed.{Displays, Displayed, Knowing}
 
 -- ---- what is lent

@@ -6,7 +6,7 @@ use Rattle.rules.specs.Known.{Entry}
 use Rattle.obj.specs.Lent.{Lent}
 use Rattle.obj.specs.declared.sections.Code.{Code}
 use Rattle.known.specs.Table.{Kept, Knows}
-use Rattle.cfa_store.specs.Shown.{Shows}
+use Rattle.cfa_process.specs.Shown.{Shows}
 
 -- all the lent lists of an image that passed the checks, and its code section
 pub record Displays (l : Lent) (s b o f x sk : List ℕ) (c : Code) : Type 0 where

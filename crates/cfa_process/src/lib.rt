@@ -1,4 +1,6 @@
 // AnalyzerState::process_function_at: an entry is walked, and stored with its lists or set aside.
+pub mod store;
+
 ghost use mathlib.Core.Path.{_≡_};
 ghost use mathlib.Core.List.{List, []};
 ghost use Rattle.rules.specs.Slices.{with-only};
@@ -99,7 +101,7 @@ pub fn process_function_at(
         };
     }
     if r.found {
-        return cfa_store::store_function(
+        return store::store_function(
             sections,
             bytes,
             skips,

@@ -23,8 +23,8 @@ use Rattle.obj_rows.specs.Skips.{Ascending}
 use Rattle.gaps.specs.Looks.{Looks}
 use Rattle.run.proofs.Ready.{code-in}
 use Rattle.entries.specs.Table.{Holds, Good, Told}
-use Rattle.cfa_store.specs.Shown.{Shown}
-use Rattle.cfa_store.proofs.Keeping.{within, ascends}
+use Rattle.cfa_process.specs.Shown.{Shown}
+use Rattle.cfa_process.proofs.Keeping.{within, ascends}
 use Rattle.cfa_process.proofs.Walked.{shown}
 use Rattle.cfa_settle.proofs.Settles.{lends}
 use Rattle.cfa_finalize.specs.Near.{Near}

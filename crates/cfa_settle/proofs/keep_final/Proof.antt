@@ -1,5 +1,5 @@
 use Rattle.cfa_settle.proofs.Keeping.{refers-fail, refers-kept}
-use Rattle.cfa_store.proofs.Keeping.{keys-fit, added, good-then}
+use Rattle.cfa_process.proofs.Keeping.{keys-fit, added, good-then}
 use borrow.Author.Needs.{needs}
 use Rattle.cfa_settle.proofs.keep_final.Statement.{statement}
 use Rattle.cfa_settle.proofs.keep_final.Tie as tie

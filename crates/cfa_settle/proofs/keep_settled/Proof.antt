@@ -1,5 +1,5 @@
 use Rattle.cfa_settle.proofs.Keeping.{final-fails, final-kept}
-use Rattle.cfa_store.proofs.Keeping.{few, within, ascends, looking, looks-of}
+use Rattle.cfa_process.proofs.Keeping.{few, within, ascends, looking, looks-of}
 use borrow.Author.Needs.{needs}
 use Rattle.cfa_settle.proofs.keep_settled.Statement.{statement}
 use Rattle.cfa_settle.proofs.keep_settled.Tie as tie

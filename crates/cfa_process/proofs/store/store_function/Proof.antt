@@ -1,7 +1,7 @@
-use Rattle.cfa_store.proofs.Keeping.{ascends, looking, looks-of, keys-fit, function-fails, added, good-then, function-final, function-kept}
+use Rattle.cfa_process.proofs.Keeping.{ascends, looking, looks-of, keys-fit, function-fails, added, good-then, function-final, function-kept}
 use borrow.Author.Needs.{needs}
-use Rattle.cfa_store.proofs.store_function.Statement.{statement}
-use Rattle.cfa_store.proofs.store_function.Tie as tie
+use Rattle.cfa_process.proofs.store.store_function.Statement.{statement}
+use Rattle.cfa_process.proofs.store.store_function.Tie as tie
 
 add-references-requires : tie.Need-add-references-requires
 add-references-requires c κs = let p = c .before .before .before .before .before .before .before .before .before .pre in (p .0, (ascends _ _ _ _ (p .1 .1), (looking _ _ _ _ (p .1 .1), (p .1 .0 .0 .keys, keys-fit _ _ _ (p .1 .0 .0)))))

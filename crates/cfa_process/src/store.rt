@@ -7,7 +7,7 @@ ghost use Rattle.obj.specs.Lent.{Lent, image};
 ghost use Rattle.lists.specs.View.{view, Fit};
 ghost use Rattle.entries.specs.Table.{Holds, Good, capacity};
 ghost use Rattle.cfa_entries.specs.Adding.{Entered};
-ghost use Rattle.cfa_store.specs.Shown.{Shows, Shown};
+ghost use Rattle.cfa_process.specs.Shown.{Shows, Shown};
 use cfa_entries::Entries;
 
 // Stored with an end, 0 for none.

@@ -1,6 +1,6 @@
 use borrow.Author.Needs.{needs}
-use Rattle.cfa_store.proofs.keep.Statement.{statement}
-use Rattle.cfa_store.proofs.keep.Tie as tie
+use Rattle.cfa_process.proofs.store.keep.Statement.{statement}
+use Rattle.cfa_process.proofs.store.keep.Tie as tie
 
 returns : tie.Need-returns
 returns c = λ es h. record { told = c .before .before .store .ensures es h }

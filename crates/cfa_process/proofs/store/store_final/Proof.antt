@@ -1,7 +1,7 @@
-use Rattle.cfa_store.proofs.Keeping.{few, within, final-fails, final-kept}
+use Rattle.cfa_process.proofs.Keeping.{few, within, final-fails, final-kept}
 use borrow.Author.Needs.{needs}
-use Rattle.cfa_store.proofs.store_final.Statement.{statement}
-use Rattle.cfa_store.proofs.store_final.Tie as tie
+use Rattle.cfa_process.proofs.store.store_final.Statement.{statement}
+use Rattle.cfa_process.proofs.store.store_final.Tie as tie
 
 finalize-requires : tie.Need-finalize-requires
 finalize-requires c κs = let p = c .before .before .before .before .before .before .before .before .pre in ((few _ _ _ _ (p .1 .1), within _ _ _ _ (p .1 .1), p .0 .holds .kept), p .1 .0)

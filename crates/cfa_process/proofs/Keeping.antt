@@ -28,7 +28,7 @@ use Rattle.entries.specs.Table.{Holds, Good, Told, capacity}
 use Rattle.cfa_entries.specs.Adding.{Looks, Looking, Entered}
 use Rattle.cfa_entries.proofs.Each.{Gone, gone, lost}
 use Rattle.cfa_entries.proofs.Keys.{keys-met}
-use Rattle.cfa_store.specs.Shown.{Shows, Shown}
+use Rattle.cfa_process.specs.Shown.{Shows, Shown}
 
 -- ---- what the image gives
 
