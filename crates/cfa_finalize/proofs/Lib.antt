@@ -1,3 +1,7 @@
+pub mod Keeping
+pub mod Loads
+pub mod Settles
+pub mod Finals
 pub mod Lows
 pub mod Notes
 pub mod Stays

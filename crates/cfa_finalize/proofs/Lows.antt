@@ -21,7 +21,7 @@ use Rattle.walk.specs.State.{Low}
 use Rattle.run.proofs.Ready.{code-in}
 use Rattle.entries.specs.Table.{Holds}
 use Rattle.cfa_process.specs.Displayed.{Displays}
-use Rattle.cfa_settle.proofs.Settles.{lends}
+use Rattle.cfa_finalize.proofs.Settles.{lends}
 use Rattle.cfa_finalize.specs.Near.{LowIn, AllLow, Near}
 
 -- the first start is at or below any other

@@ -17,7 +17,7 @@ use Rattle.rules.specs.Map as rules
 use Rattle.rules.proofs.Ordered.{put-new}
 use Rattle.rules.proofs.Sizes.{limited-is}
 use Rattle.rules.proofs.Rows.{above-more}
-use Rattle.cfa_settle.specs.Turns.{In}
+use Rattle.cfa_finalize.specs.Turns.{In}
 
 -- ---- an entry stays
 

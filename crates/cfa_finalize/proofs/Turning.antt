@@ -27,7 +27,7 @@ use Rattle.entries.proofs.Reading.{entries-rise, one-only}
 use Rattle.cfa_process.specs.Displayed.{Displays, Displayed}
 use Rattle.cfa_detect.specs.Behind.{IsRound}
 use Rattle.cfa_detect.specs.declared.Detected.{Detected}
-use Rattle.cfa_settle.specs.Turns.{In, Owns, Ready, Went, Turned}
+use Rattle.cfa_finalize.specs.Turns.{In, Owns, Ready, Went, Turned}
 use Rattle.cfa_finalize.specs.Near.{LowIn, AllLow, Near}
 use Rattle.cfa_finalize.proofs.Stays.{finalize-stays, filter-rising}
 

@@ -1,4 +1,6 @@
 // AnalyzerState::finalize_functions (cfa.rs): each function that has no end yet is finalized, if all its possible blocks can be settled.
+pub mod settling;
+
 ghost use mathlib.Core.Path.{_≡_};
 ghost use mathlib.Core.List.{List, map};
 ghost use Prim.Native.Nat.{_≤_, _<_};
@@ -78,7 +80,7 @@ fn finalize_each(
     let mut changed = false;
     let mut i: usize = 0;
     while i < m {
-        let r = cfa_settle::finalize_function(
+        let r = settling::finalize_function(
             sections,
             bytes,
             outcomes,

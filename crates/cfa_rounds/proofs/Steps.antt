@@ -26,7 +26,7 @@ use Rattle.entries.specs.Table.{Holds, Good, Told}
 use Rattle.cfa_process.specs.Shown.{Shown}
 use Rattle.cfa_process.proofs.Keeping.{within, ascends}
 use Rattle.cfa_process.proofs.Walked.{shown}
-use Rattle.cfa_settle.proofs.Settles.{lends}
+use Rattle.cfa_finalize.proofs.Settles.{lends}
 use Rattle.cfa_finalize.specs.Near.{Near}
 use Rattle.cfa_finalize.proofs.Lows.{near-of}
 use Rattle.cfa_entries.specs.Adding.{Entered}

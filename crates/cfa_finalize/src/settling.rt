@@ -16,7 +16,7 @@ ghost use Rattle.entries.specs.Table.{Holds, Good, capacity};
 ghost use Rattle.cfa_entries.specs.Adding.{Looks, Looking, Entered};
 ghost use Rattle.cfa_process.specs.Shown.{Shows, Shown};
 ghost use Rattle.cfa_process.specs.Displayed.{Displays, Displayed, Knowing};
-ghost use Rattle.cfa_settle.specs.Turns.{Owns, Ready, kept, settled-lists, Turned};
+ghost use Rattle.cfa_finalize.specs.Turns.{Owns, Ready, kept, settled-lists, Turned};
 use cfa_detect::Detected;
 use cfa_entries::Entries;
 

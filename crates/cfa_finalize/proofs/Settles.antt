@@ -22,7 +22,7 @@ use Rattle.callback.specs.Lends.{Of, LendsAll}
 use Rattle.settle.specs.Settled.{settling-of, settled, IsSettling}
 use Rattle.settle.specs.declared.Settling.{Settling}
 use Rattle.cfa_process.specs.Displayed.{Displays, Displayed, Knowing}
-use Rattle.cfa_settle.specs.Turns.{lowest, settled-lists}
+use Rattle.cfa_finalize.specs.Turns.{lowest, settled-lists}
 
 -- ---- what is lent
 

@@ -1,8 +1,8 @@
-use Rattle.cfa_settle.proofs.Keeping.{final-fails, final-kept}
+use Rattle.cfa_finalize.proofs.Keeping.{final-fails, final-kept}
 use Rattle.cfa_process.proofs.Keeping.{few, within, ascends, looking, looks-of}
 use borrow.Author.Needs.{needs}
-use Rattle.cfa_settle.proofs.keep_settled.Statement.{statement}
-use Rattle.cfa_settle.proofs.keep_settled.Tie as tie
+use Rattle.cfa_finalize.proofs.settling.keep_settled.Statement.{statement}
+use Rattle.cfa_finalize.proofs.settling.keep_settled.Tie as tie
 
 finalize-requires : tie.Need-finalize-requires
 finalize-requires c κs = let p = c .before .before .before .before .before .before .before .before .pre in ((few _ _ _ _ (p .1 .1), within _ _ _ _ (p .1 .1), p .0 .holds .kept), p .1 .0)

@@ -24,7 +24,7 @@ use Rattle.cfa_entries.specs.Adding.{Entered}
 use Rattle.cfa_entries.proofs.Each.{Gone, gone, lost}
 use Rattle.cfa_entries.proofs.Keys.{keys-met}
 use Rattle.cfa_process.proofs.Keeping.{added}
-use Rattle.cfa_settle.specs.Turns.{kept, Turned}
+use Rattle.cfa_finalize.specs.Turns.{kept, Turned}
 
 -- ---- what it refers to, and the function itself
 

@@ -1,7 +1,7 @@
-use Rattle.cfa_settle.proofs.Settles.{lends, lends-outcomes, lends-some, lists-settled}
+use Rattle.cfa_finalize.proofs.Settles.{lends, lends-outcomes, lends-some, lists-settled}
 use borrow.Author.Needs.{needs}
-use Rattle.cfa_settle.proofs.settle_lists.Statement.{statement}
-use Rattle.cfa_settle.proofs.settle_lists.Tie as tie
+use Rattle.cfa_finalize.proofs.settling.settle_lists.Statement.{statement}
+use Rattle.cfa_finalize.proofs.settling.settle_lists.Tie as tie
 
 settle-all-requires : tie.Need-settle-all-requires
 settle-all-requires c κs = let p = c .before .before .before .before .before .before .before .before .before .before .before .before .before .before .before .before .before .before .before .pre in (lends-some _ _ _ _ _ _ _ (p .0) _ _ (p .1 .0) _ _, (p .1 .1 .0, rw (c .before .before .before .before .before .before .before .first-start .ensures) (p .1 .1 .1)))

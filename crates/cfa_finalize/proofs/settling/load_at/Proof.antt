@@ -1,10 +1,10 @@
 use Rattle.lists.specs.View.{part}
 use Rattle.entries.proofs.Lookups.{find-fits}
-use Rattle.cfa_settle.proofs.Loads.{ready-below, at-lists}
-use Rattle.cfa_settle.proofs.Finals.{good-of}
+use Rattle.cfa_finalize.proofs.Loads.{ready-below, at-lists}
+use Rattle.cfa_finalize.proofs.Finals.{good-of}
 use borrow.Author.Needs.{needs}
-use Rattle.cfa_settle.proofs.load_at.Statement.{statement}
-use Rattle.cfa_settle.proofs.load_at.Tie as tie
+use Rattle.cfa_finalize.proofs.settling.load_at.Statement.{statement}
+use Rattle.cfa_finalize.proofs.settling.load_at.Tie as tie
 
 find-requires : tie.Need-find-requires
 unfolding part

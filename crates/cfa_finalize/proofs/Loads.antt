@@ -19,7 +19,7 @@ use Rattle.entries.specs.Table.{Holds}
 use Rattle.entries.proofs.Rows.{count-is}
 use Rattle.entries.proofs.Lookups.{place-is}
 use Rattle.entries.proofs.Reading.{entries-rise}
-use Rattle.cfa_settle.specs.Turns.{In, Owns, Ready}
+use Rattle.cfa_finalize.specs.Turns.{In, Owns, Ready}
 
 in-among : (x : Entry) (es : List Entry) → In x es → Among entryOf (x .entry) es
 in-among x [] h = absurd h

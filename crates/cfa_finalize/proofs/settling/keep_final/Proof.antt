@@ -1,8 +1,8 @@
-use Rattle.cfa_settle.proofs.Keeping.{refers-fail, refers-kept}
+use Rattle.cfa_finalize.proofs.Keeping.{refers-fail, refers-kept}
 use Rattle.cfa_process.proofs.Keeping.{keys-fit, added, good-then}
 use borrow.Author.Needs.{needs}
-use Rattle.cfa_settle.proofs.keep_final.Statement.{statement}
-use Rattle.cfa_settle.proofs.keep_final.Tie as tie
+use Rattle.cfa_finalize.proofs.settling.keep_final.Statement.{statement}
+use Rattle.cfa_finalize.proofs.settling.keep_final.Tie as tie
 
 add-references-requires : tie.Need-add-references-requires
 add-references-requires c κs = let p = c .before .before .before .before .before .before .before .pre in (p .0, (p .1 .1 .0, (p .1 .1 .1, (p .1 .0 .keys, keys-fit _ _ _ (p .1 .0)))))

@@ -1,8 +1,8 @@
-use Rattle.cfa_settle.proofs.Finals.{good-of, knowing-of, loaded-fits, loaded-low, loaded-settled, settling-fails, settling-keeps, settling-stays}
+use Rattle.cfa_finalize.proofs.Finals.{good-of, knowing-of, loaded-fits, loaded-low, loaded-settled, settling-fails, settling-keeps, settling-stays}
 use Rattle.cfa_process.proofs.Walked.{shown}
 use borrow.Author.Needs.{needs}
-use Rattle.cfa_settle.proofs.finalize_function.Statement.{statement}
-use Rattle.cfa_settle.proofs.finalize_function.Tie as tie
+use Rattle.cfa_finalize.proofs.settling.finalize_function.Statement.{statement}
+use Rattle.cfa_finalize.proofs.settling.finalize_function.Tie as tie
 
 settle-lists-requires : tie.Need-settle-lists-requires
 settle-lists-requires c κs = let p = c .before .before .before .before .before .before .before .before .before .before .before .before .before .before .before .before .before .before .before .pre in let r = p .1 in let i = c .before .before .before .before .load-at .ensures (r .entries) (r .slices) (r .holds) (r .owns) in (p .0, (knowing-of _ _ _ _ _ r, (loaded-fits _ _ _ _ _ i, loaded-low _ _ _ _ _ i (r .low))))

@@ -1,4 +1,0 @@
-pub mod Keeping
-pub mod Loads
-pub mod Settles
-pub mod Finals
