@@ -127,7 +127,7 @@ fn detect(
     requires sizes { ⌜ (length (now known) ≡ 2048) × (length (now infos) ≡ 8192) ⌝ }
     ensures { λ r. ⌜ ((l : Lent) → Displays l (now (sections .entry)) (now (bytes .entry)) (now (outcomes .entry)) (now (functions .entry)) (now (objects .entry)) (now (skips .entry)) code → l .entry ≡ now (entry .entry) → Entered (rules.detect (image l) (capacity room (now (lists .entry)))) (r .count) (now (known .exit)) (now (infos .exit)) (now (lists .exit)) (r .fault)) ⌝ }
 {
-    let r = cfa_first::walk_given(
+    let r = cfa_rounds::first::walk_given(
         sections,
         bytes,
         outcomes,

@@ -1,3 +1,4 @@
+pub mod Given
 pub mod Rest
 pub mod Steps
 pub mod Turning

@@ -1,4 +1,6 @@
 // The turns of AnalyzerState::detect_functions: each walks an entry, finalizes what it can, or finds new entries.
+pub mod first;
+
 ghost use mathlib.Core.Path.{_≡_};
 ghost use mathlib.Core.List.{List};
 ghost use Prim.Native.Nat.{_+_, _≤_};

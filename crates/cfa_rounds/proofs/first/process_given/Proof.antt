@@ -1,8 +1,8 @@
 use Rattle.entries.specs.Table.{capacity}
-use Rattle.cfa_first.proofs.Given.{low, room-known, room-point, few-keys, given-keys, given-is}
+use Rattle.cfa_rounds.proofs.Given.{low, room-known, room-point, few-keys, given-keys, given-is}
 use borrow.Author.Needs.{needs}
-use Rattle.cfa_first.proofs.process_given.Statement.{statement}
-use Rattle.cfa_first.proofs.process_given.Tie as tie
+use Rattle.cfa_rounds.proofs.first.process_given.Statement.{statement}
+use Rattle.cfa_rounds.proofs.first.process_given.Tie as tie
 
 copy-in-requires : tie.Need-copy-in-requires
 copy-in-requires c κs = room-known _ _ _ _ (c .before .before .before .before .before .before .before .before .before .before .before .pre .1)

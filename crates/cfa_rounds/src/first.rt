@@ -9,7 +9,7 @@ ghost use Rattle.obj.specs.Lent.{Lent, image};
 ghost use Rattle.entries.specs.Table.{Holds, Good, capacity};
 ghost use Rattle.cfa_entries.specs.Adding.{Entered};
 ghost use Rattle.cfa_process.specs.Displayed.{Displays, Displayed};
-ghost use Rattle.cfa_first.specs.Walks.{process-given, Put};
+ghost use Rattle.cfa_rounds.specs.Walks.{process-given, Put};
 use cfa_entries::Entries;
 
 // The entry point, if there is one, put behind n keys.
@@ -50,7 +50,7 @@ fn process_given(
     let mut keys: [u64; 1025] = [0; 1025];
     runs::copy_in(&mut keys, 0, known, n);
     let m = put_entry_point(entry, code, &mut keys, n);
-    cfa_rounds::process_each(
+    crate::process_each(
         sections,
         bytes,
         outcomes,

@@ -1,7 +1,7 @@
-use Rattle.cfa_first.proofs.Given.{listed, lists-of, walk-fails, walk-good, walk-goes}
+use Rattle.cfa_rounds.proofs.Given.{listed, lists-of, walk-fails, walk-good, walk-goes}
 use borrow.Author.Needs.{needs}
-use Rattle.cfa_first.proofs.walk_given.Statement.{statement}
-use Rattle.cfa_first.proofs.walk_given.Tie as tie
+use Rattle.cfa_rounds.proofs.first.walk_given.Statement.{statement}
+use Rattle.cfa_rounds.proofs.first.walk_given.Tie as tie
 
 first-entries-requires : tie.Need-first-entries-requires
 first-entries-requires c κs = let p = c .before .before .before .before .before .before .before .before .before .before .before .pre in (listed _ _ _ _ _ _ _ (p .0), p .1)

@@ -30,7 +30,7 @@ use Rattle.cfa_entries.proofs.Each.{Gone, gone, lost}
 use Rattle.cfa_process.specs.Displayed.{Displays, Displayed}
 use Rattle.cfa_process.proofs.Walked.{lends}
 use Rattle.cfa_symbols.specs.Listed.{Lists, Listed}
-use Rattle.cfa_first.specs.Walks.{process-given, point, Put}
+use Rattle.cfa_rounds.specs.Walks.{process-given, point, Put}
 
 -- ---- one after the other
 

@@ -1,8 +1,8 @@
 use mathlib.Core.Path.{refl}
-use Rattle.cfa_first.proofs.Given.{no-point, put-point}
+use Rattle.cfa_rounds.proofs.Given.{no-point, put-point}
 use borrow.Author.Needs.{needs}
-use Rattle.cfa_first.proofs.put_entry_point.Statement.{statement}
-use Rattle.cfa_first.proofs.put_entry_point.Tie as tie
+use Rattle.cfa_rounds.proofs.first.put_entry_point.Statement.{statement}
+use Rattle.cfa_rounds.proofs.first.put_entry_point.Tie as tie
 
 returns : tie.Need-returns
 returns c = no-point _ _ _ _ (c .if1 .taken)
