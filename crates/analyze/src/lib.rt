@@ -7,12 +7,13 @@ ghost use lib.ListN.{length};
 ghost use Rattle.rules.specs.Blocks.{last-end};
 ghost use Rattle.rules.specs.Step as steps;
 ghost use Rattle.rules.specs.Analyze as rules;
-ghost use Rattle.executor.specs.Bits.{bit};
+ghost use Rattle.executor.specs.Bits.{bit, VISITED};
 ghost use Rattle.lists.specs.View.{view, Fit};
 ghost use Rattle.walk.specs.State.{walk-of, Going, Is};
 ghost use Rattle.callback.specs.Lends.{LendsAll, Of};
 ghost use Rattle.run.specs.Steps.{Bits};
 ghost use Rattle.analyze.specs.Analysis.{Walks, passes, walk-and-passes, begun, IsAnalyzed};
+use lists::places;
 
 // Behind the words `nop` from addr, as far as the function's end. A `nop` lies in code, so that four more does not overflow.
 fn skip_nops(bytes: &[u8], a: callback::around::Around, addr: u64) -> u64
@@ -68,15 +69,15 @@ fn reach_step(
     functions: &[u32],
     objects: &[u32],
     known: &[u64],
-    visited: &mut [u32; 2048],
-    k: &mut [u64; 2176],
-    v: &mut [u64; 1536],
+    visited: &mut [u32; executor::VISITED],
+    k: &mut [u64; places::KEYS],
+    v: &mut [u64; places::VALUES],
     a: callback::around::Around,
     w: walk::Walk,
 ) -> walk::Walk
     requires lends { ⌜ LendsAll (now sections) (now bytes) (now outcomes) (now functions) (now objects) (now known) a ⌝ }
     requires going { ⌜ Going (now k) (now v) w ⌝ }
-    requires bits { ⌜ length (now visited) ≡ 2048 ⌝ }
+    requires bits { ⌜ length (now visited) ≡ VISITED ⌝ }
     ensures { λ r. ⌜ Bits (now (visited .exit)) × ((e : steps.Around) (o : Of (now (sections .entry)) (now (bytes .entry)) (now (functions .entry)) (now (objects .entry)) (now (known .entry)) a e) → o .lent .outcomes ≡ now (outcomes .entry) → Is (rules.reach-step e (walk-of (bit (now (visited .entry))) (now (k .entry)) (now (v .entry)) w)) (bit (now (visited .exit))) (now (k .exit)) (now (v .exit)) r) ⌝ }
 {
     let to = next_part(bytes, k, v, a, w.small);
@@ -104,15 +105,15 @@ fn reach_end(
     functions: &[u32],
     objects: &[u32],
     known: &[u64],
-    visited: &mut [u32; 2048],
-    k: &mut [u64; 2176],
-    v: &mut [u64; 1536],
+    visited: &mut [u32; executor::VISITED],
+    k: &mut [u64; places::KEYS],
+    v: &mut [u64; places::VALUES],
     a: callback::around::Around,
     w: walk::Walk,
 ) -> walk::Walk
     requires lends { ⌜ LendsAll (now sections) (now bytes) (now outcomes) (now functions) (now objects) (now known) a ⌝ }
     requires going { ⌜ Going (now k) (now v) w ⌝ }
-    requires bits { ⌜ length (now visited) ≡ 2048 ⌝ }
+    requires bits { ⌜ length (now visited) ≡ VISITED ⌝ }
     ensures { λ r. ⌜ Bits (now (visited .exit)) × ((e : steps.Around) (o : Of (now (sections .entry)) (now (bytes .entry)) (now (functions .entry)) (now (objects .entry)) (now (known .entry)) a e) → o .lent .outcomes ≡ now (outcomes .entry) → Is (rules.reach-end e (walk-of (bit (now (visited .entry))) (now (k .entry)) (now (v .entry)) w)) (bit (now (visited .exit))) (now (k .exit)) (now (v .exit)) r) ⌝ }
 {
     let mut r = w;
@@ -145,15 +146,15 @@ fn run_passes(
     functions: &[u32],
     objects: &[u32],
     known: &[u64],
-    visited: &mut [u32; 2048],
-    k: &mut [u64; 2176],
-    v: &mut [u64; 1536],
+    visited: &mut [u32; executor::VISITED],
+    k: &mut [u64; places::KEYS],
+    v: &mut [u64; places::VALUES],
     a: callback::around::Around,
     w: walk::Walk,
 ) -> walk::Walk
     requires lends { ⌜ LendsAll (now sections) (now bytes) (now outcomes) (now functions) (now objects) (now known) a ⌝ }
     requires going { ⌜ Going (now k) (now v) w ⌝ }
-    requires bits { ⌜ length (now visited) ≡ 2048 ⌝ }
+    requires bits { ⌜ length (now visited) ≡ VISITED ⌝ }
     ensures { λ r. ⌜ Bits (now (visited .exit)) × ((e : steps.Around) (o : Of (now (sections .entry)) (now (bytes .entry)) (now (functions .entry)) (now (objects .entry)) (now (known .entry)) a e) → o .lent .outcomes ≡ now (outcomes .entry) → Is (passes e (walk-of (bit (now (visited .entry))) (now (k .entry)) (now (v .entry)) w)) (bit (now (visited .exit))) (now (k .exit)) (now (v .exit)) r) ⌝ }
 {
     let r = slices::connect(
@@ -195,16 +196,16 @@ fn walk_and_passes(
     functions: &[u32],
     objects: &[u32],
     known: &[u64],
-    visited: &mut [u32; 2048],
-    k: &mut [u64; 2176],
-    v: &mut [u64; 1536],
+    visited: &mut [u32; executor::VISITED],
+    k: &mut [u64; places::KEYS],
+    v: &mut [u64; places::VALUES],
     a: callback::around::Around,
     w: walk::Walk,
     addr: u64,
 ) -> walk::Walk
     requires lends { ⌜ LendsAll (now sections) (now bytes) (now outcomes) (now functions) (now objects) (now known) a ⌝ }
     requires going { ⌜ Going (now k) (now v) w ⌝ }
-    requires bits { ⌜ length (now visited) ≡ 2048 ⌝ }
+    requires bits { ⌜ length (now visited) ≡ VISITED ⌝ }
     ensures { λ r. ⌜ Bits (now (visited .exit)) × ((e : steps.Around) (o : Of (now (sections .entry)) (now (bytes .entry)) (now (functions .entry)) (now (objects .entry)) (now (known .entry)) a e) → o .lent .outcomes ≡ now (outcomes .entry) → Is (walk-and-passes e addr (walk-of (bit (now (visited .entry))) (now (k .entry)) (now (v .entry)) w)) (bit (now (visited .exit))) (now (k .exit)) (now (v .exit)) r) ⌝ }
 {
     let r = slices::walk_from(
@@ -289,8 +290,8 @@ fn analyze_walk(
     functions: &[u32],
     objects: &[u32],
     known: &[u64],
-    k: &mut [u64; 2176],
-    v: &mut [u64; 1536],
+    k: &mut [u64; places::KEYS],
+    v: &mut [u64; places::VALUES],
     a: callback::around::Around,
     s: lists::Small,
     addr: u64,
@@ -332,8 +333,8 @@ pub fn analyze(
     functions: &[u32],
     objects: &[u32],
     known: &[u64],
-    k: &mut [u64; 2176],
-    v: &mut [u64; 1536],
+    k: &mut [u64; places::KEYS],
+    v: &mut [u64; places::VALUES],
     a: callback::around::Around,
     s: lists::Small,
     addr: u64,

@@ -34,6 +34,7 @@ use Rattle.obj.specs.declared.sections.Code.{Code}
 use Rattle.obj.specs.declared.outcomes.Told.{Told}
 use Rattle.obj.specs.declared.outcomes.Outcome.{Outcome}
 use Rattle.callback.proofs.WordCases.{with-lists, some-fault, no-fault, some-known, none-known, word-known, word-own}
+use Rattle.lists.specs.Places.{POSSIBLE, AT-POSSIBLE}
 
 -- ---- by the primary opcode
 
@@ -152,7 +153,7 @@ module _ (im : Image) (addr w : ℕ) (inside : images.contains (code-section im)
     unfolding noted _>>=_ if
     plain-noted z =
         record {
-          is = rw (sequences-kept (view k v s), note-kept (view k v s) (unfold view in ap (λ (n : ℕ). take n (lists.part 1792 128 k)) z)) refl;
+          is = rw (sequences-kept (view k v s), note-kept (view k v s) (unfold view in ap (λ (n : ℕ). take n (lists.part AT-POSSIBLE POSSIBLE k)) z)) refl;
           fit = f .0;
           fine = f .1;
           pending = refl;

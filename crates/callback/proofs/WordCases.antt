@@ -37,6 +37,7 @@ use Rattle.callback.specs.Noted.{stops, stopped-by}
 use Rattle.callback.specs.Lends.{Of, kind}
 use Rattle.callback_around.specs.declared.around.Around.{Around}
 use Rattle.callback_around.proofs.Places.{placed-same, placed-nowhere}
+use Rattle.lists.specs.Places.{AT-PENDING}
 
 -- ---- returns noted
 
@@ -207,7 +208,7 @@ module _ (e : rules.Around) (vis : ℕ → Bool) (k v : List ℕ) (w : Walk) (ad
 -- ---- the whole
 
 -- the walk with lists anew, wherever they lie
-pub with-lists : (vis : ℕ → Bool) (k v k′ v′ : List ℕ) (w r : Walk) (t : Small) → r ≡ with-small w t → drop 1920 k′ ≡ drop 1920 k → {x : Slices} → view k′ v′ t ≡ x → rules.with-slices (walk-of vis k v w) x ≡ walk-of vis k′ v′ r
+pub with-lists : (vis : ℕ → Bool) (k v k′ v′ : List ℕ) (w r : Walk) (t : Small) → r ≡ with-small w t → drop AT-PENDING k′ ≡ drop AT-PENDING k → {x : Slices} → view k′ v′ t ≡ x → rules.with-slices (walk-of vis k v w) x ≡ walk-of vis k′ v′ r
 unfolding walk-of place-of
 with-lists vis k v k′ v′ w r t e p h =
     rw (e, ← h) (ap (λ (y : List ℕ). record { slices = view k′ v′ t; visited = vis; pending = y; fresh = w .fresh; place = place-of w }) (sym (pending-same k k′ (w .pending) p)))

@@ -18,6 +18,7 @@ use Rattle.obj.specs.Sections.{IsCode}
 use Rattle.obj.specs.declared.sections.Code.{Code}
 use Rattle.lists.specs.View.{view, Fit}
 use Rattle.callback.specs.declared.words.Noted.{Noted}
+use Rattle.lists.specs.Places.{AT-PENDING}
 
 -- a word by whose primary opcode it begins no sequence, loads no r1 and is no return
 unfoldable pub plain : ℕ → Bool
@@ -53,4 +54,4 @@ pub record IsNoted (a : Answer Slices) (k k′ v′ : List ℕ) (r : Noted) : Ty
   pub is : a ≡ if (eqb (r .fault) 0) (ok (view k′ v′ (r .small))) (fault (r .fault))
   pub fit : Fit k′ v′ (r .small)
   pub fine : r .small .fault ≡ 0
-  pub pending : drop 1920 k′ ≡ drop 1920 k
+  pub pending : drop AT-PENDING k′ ≡ drop AT-PENDING k

@@ -28,6 +28,7 @@ use callback_jumps::jumps::do_illegal;
 use callback_jumps::jumps::do_jump;
 use callback_jumps::jumps::do_unknown;
 use callback_tables::tables::do_table;
+use lists::places;
 
 // The code word at an address of the code section.
 fn word_in(bytes: &[u8], code: obj::sections::Code, addr: u64) -> u32
@@ -60,8 +61,8 @@ fn check_word(
 
 // Returns are noted, and the word is no longer a possible block.
 fn note_word(
-    k: &mut [u64; 2176],
-    v: &mut [u64; 1536],
+    k: &mut [u64; places::KEYS],
+    v: &mut [u64; places::VALUES],
     s: lists::Small,
     addr: u64,
     word: u32,
@@ -92,8 +93,8 @@ struct Noted {
 // Notes a word. Nothing is copied for a plain one.
 fn note(
     bytes: &[u8],
-    k: &mut [u64; 2176],
-    v: &mut [u64; 1536],
+    k: &mut [u64; places::KEYS],
+    v: &mut [u64; places::VALUES],
     code: obj::sections::Code,
     s: lists::Small,
     addr: u64,
@@ -129,9 +130,9 @@ fn after_block(
     functions: &[u32],
     objects: &[u32],
     known: &[u64],
-    visited: &[u32; 2048],
-    k: &mut [u64; 2176],
-    v: &mut [u64; 1536],
+    visited: &[u32; executor::VISITED],
+    k: &mut [u64; places::KEYS],
+    v: &mut [u64; places::VALUES],
     a: Around,
     w: walk::Walk,
     addr: u64,
@@ -194,9 +195,9 @@ fn do_outcome(
     functions: &[u32],
     objects: &[u32],
     known: &[u64],
-    visited: &[u32; 2048],
-    k: &mut [u64; 2176],
-    v: &mut [u64; 1536],
+    visited: &[u32; executor::VISITED],
+    k: &mut [u64; places::KEYS],
+    v: &mut [u64; places::VALUES],
     a: Around,
     w: walk::Walk,
     addr: u64,
@@ -279,9 +280,9 @@ fn meet_word(
     functions: &[u32],
     objects: &[u32],
     known: &[u64],
-    visited: &[u32; 2048],
-    k: &mut [u64; 2176],
-    v: &mut [u64; 1536],
+    visited: &[u32; executor::VISITED],
+    k: &mut [u64; places::KEYS],
+    v: &mut [u64; places::VALUES],
     a: Around,
     w: walk::Walk,
     addr: u64,
@@ -331,9 +332,9 @@ pub fn instruction_callback(
     functions: &[u32],
     objects: &[u32],
     known: &[u64],
-    visited: &[u32; 2048],
-    k: &mut [u64; 2176],
-    v: &mut [u64; 1536],
+    visited: &[u32; executor::VISITED],
+    k: &mut [u64; places::KEYS],
+    v: &mut [u64; places::VALUES],
     a: Around,
     w: walk::Walk,
     addr: u64,

@@ -18,7 +18,7 @@ pub struct Around {
 }
 
 // Whether the word at addr was visited.
-pub fn is_seen(visited: &[u32; 2048], code: obj::sections::Code, addr: u64) -> bool
+pub fn is_seen(visited: &[u32; executor::VISITED], code: obj::sections::Code, addr: u64) -> bool
     requires { ⌜ code .size ≤ 262144 ⌝ }
     ensures { λ r. ⌜ ((im : Image) → IsCodeOf im code → r ≡ (in-code im addr && bit (now (visited .entry)) (index im addr))) ⌝ }
 {

@@ -18,6 +18,7 @@ ghost use Rattle.callback_branches.specs.Ways.{Branches, some-way, with-
 use callback_around::around::Around;
 use callback_around::around::is_known_function;
 use callback_around::around::known_function;
+use lists::places;
 
 // The walk after a branch, and where it goes on, if it does.
 pub struct Branched {
@@ -67,8 +68,8 @@ fn refers_to(
 fn do_branch(
     functions: &[u32],
     known: &[u64],
-    k: &mut [u64; 2176],
-    v: &mut [u64; 1536],
+    k: &mut [u64; places::KEYS],
+    v: &mut [u64; places::VALUES],
     a: Around,
     w: walk::Walk,
     link: bool,
@@ -99,8 +100,8 @@ fn branch_to(
     sections: &[u32],
     functions: &[u32],
     known: &[u64],
-    k: &mut [u64; 2176],
-    v: &mut [u64; 1536],
+    k: &mut [u64; places::KEYS],
+    v: &mut [u64; places::VALUES],
     a: Around,
     w: walk::Walk,
     branch: obj::outcomes::Branch,
@@ -138,8 +139,8 @@ fn branch_to(
 
 // The ways on of two branches, where there are any.
 fn set_ways(
-    k: &mut [u64; 2176],
-    v: &mut [u64; 1536],
+    k: &mut [u64; places::KEYS],
+    v: &mut [u64; places::VALUES],
     w: walk::Walk,
     addr: u64,
     first: bool,
@@ -168,8 +169,8 @@ pub fn do_branches(
     sections: &[u32],
     functions: &[u32],
     known: &[u64],
-    k: &mut [u64; 2176],
-    v: &mut [u64; 1536],
+    k: &mut [u64; places::KEYS],
+    v: &mut [u64; places::VALUES],
     a: Around,
     w: walk::Walk,
     addr: u64,

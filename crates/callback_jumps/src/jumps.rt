@@ -14,10 +14,11 @@ ghost use Rattle.callback_around.specs.Around.{IsCodeOf, Alike, Inside};
 use callback_around::around::Around;
 use callback_around::around::is_seen;
 use callback_around::around::known_function;
+use lists::places;
 
 // Whether the word at addr was visited, or a block starts there.
 fn is_met(
-    visited: &[u32; 2048],
+    visited: &[u32; executor::VISITED],
     k: &[u64],
     v: &[u64],
     w: walk::Walk,
@@ -36,9 +37,9 @@ fn is_met(
 
 // The block ends before a word that is met; else the walk goes on.
 pub fn do_go_on(
-    visited: &[u32; 2048],
-    k: &mut [u64; 2176],
-    v: &mut [u64; 1536],
+    visited: &[u32; executor::VISITED],
+    k: &mut [u64; places::KEYS],
+    v: &mut [u64; places::VALUES],
     a: Around,
     w: walk::Walk,
     addr: u64,
@@ -72,7 +73,12 @@ pub fn do_illegal(w: walk::Walk, addr: u64, block: u64, word: u32) -> walk::Walk
 }
 
 // Between prologue and epilogue an unknown jump goes on to the next word.
-pub fn do_unknown(k: &mut [u64; 2176], v: &mut [u64; 1536], w: walk::Walk, addr: u64) -> walk::Walk
+pub fn do_unknown(
+    k: &mut [u64; places::KEYS],
+    v: &mut [u64; places::VALUES],
+    w: walk::Walk,
+    addr: u64,
+) -> walk::Walk
     requires going { ⌜ Going (now k) (now v) w ⌝ }
     requires inside { ⌜ Inside addr ⌝ }
     ensures { λ r. ⌜ ((e : rules.Around) (vis : ℕ → Bool) → Is (rules.do-unknown e addr (walk-of vis (now (k .entry)) (now (v .entry)) w)) vis (now (k .exit)) (now (v .exit)) r) ⌝ }
@@ -105,9 +111,9 @@ fn jumps_inside(k: &[u64], v: &[u64], s: lists::Small, a: Around, addr: u64, t: 
 
 // A block of the function starts at the target; the walk goes on there, unless it was visited.
 fn jump_inside(
-    visited: &[u32; 2048],
-    k: &mut [u64; 2176],
-    v: &mut [u64; 1536],
+    visited: &[u32; executor::VISITED],
+    k: &mut [u64; places::KEYS],
+    v: &mut [u64; places::VALUES],
     code: obj::sections::Code,
     w: walk::Walk,
     t: u64,
@@ -131,8 +137,8 @@ fn jump_inside(
 // The target is a known function's, or one is referred to, or it may be a block of this one.
 fn jump_outside(
     known: &[u64],
-    k: &mut [u64; 2176],
-    v: &mut [u64; 1536],
+    k: &mut [u64; places::KEYS],
+    v: &mut [u64; places::VALUES],
     a: Around,
     w: walk::Walk,
     addr: u64,
@@ -161,10 +167,10 @@ fn jump_outside(
 
 // A jump to another word.
 fn do_jump_elsewhere(
-    visited: &[u32; 2048],
+    visited: &[u32; executor::VISITED],
     known: &[u64],
-    k: &mut [u64; 2176],
-    v: &mut [u64; 1536],
+    k: &mut [u64; places::KEYS],
+    v: &mut [u64; places::VALUES],
     a: Around,
     w: walk::Walk,
     addr: u64,
@@ -185,10 +191,10 @@ fn do_jump_elsewhere(
 
 // A jump to its own word ends the walk of it.
 pub fn do_jump(
-    visited: &[u32; 2048],
+    visited: &[u32; executor::VISITED],
     known: &[u64],
-    k: &mut [u64; 2176],
-    v: &mut [u64; 1536],
+    k: &mut [u64; places::KEYS],
+    v: &mut [u64; places::VALUES],
     a: Around,
     w: walk::Walk,
     addr: u64,

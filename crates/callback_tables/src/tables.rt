@@ -17,6 +17,7 @@ ghost use Rattle.callback_around.specs.Around.{Alike, Inside};
 ghost use Rattle.callback_tables.specs.Taken.{taken-table};
 use callback_around::around::Around;
 use callback_around::around::is_known_function;
+use lists::places;
 
 // Whether an entry lies behind the start, and no further than the last block or the next word.
 fn is_among(t: u64, start: u64, last: u64, next: u64) -> bool
@@ -95,8 +96,8 @@ fn is_own_table(
 
 // The entries are blocks of the function, and ways on.
 fn do_own_table(
-    k: &mut [u64; 2176],
-    v: &mut [u64; 1536],
+    k: &mut [u64; places::KEYS],
+    v: &mut [u64; places::VALUES],
     w: walk::Walk,
     addr: u64,
     t: u64,
@@ -132,8 +133,8 @@ fn known_end(k: &[u64], v: &[u64], s: lists::Small, a: Around) -> u64
 // What was read of a table: its entries are blocks of the function, or may be.
 fn take_table(
     known: &[u64],
-    k: &mut [u64; 2176],
-    v: &mut [u64; 1536],
+    k: &mut [u64; places::KEYS],
+    v: &mut [u64; places::VALUES],
     a: Around,
     w: walk::Walk,
     addr: u64,
@@ -159,8 +160,8 @@ pub fn do_table(
     bytes: &[u8],
     objects: &[u32],
     known: &[u64],
-    k: &mut [u64; 2176],
-    v: &mut [u64; 1536],
+    k: &mut [u64; places::KEYS],
+    v: &mut [u64; places::VALUES],
     a: Around,
     w: walk::Walk,
     addr: u64,

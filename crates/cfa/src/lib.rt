@@ -17,12 +17,13 @@ ghost use Rattle.rules.specs.Map as rules;
 ghost use Rattle.rules.specs.Run.{run};
 ghost use Rattle.rules.proofs.Faults.{Met};
 ghost use Rattle.obj.specs.Lent.{Lent, lent, given, image};
-ghost use Rattle.entries.specs.Table.{Holds, Good, capacity};
+ghost use Rattle.entries.specs.Table.{Holds, Good, capacity, KNOWN, INFOS};
 ghost use Rattle.cfa_entries.specs.Adding.{Entered};
 ghost use Rattle.cfa_process.specs.Displayed.{Displays, Displayed};
 ghost use Rattle.cfa_rounds.specs.Ready.{Sane, Ready};
 ghost use Rattle.cfa.specs.Maps.{room-of, Leaves, Told, Counted, Handed, Ended, finished};
 use cfa_entries::Entries;
+use lists::places;
 
 // 0, or why there is no map; how many entries it has, and how many numbers their lists have.
 pub struct Map {
@@ -53,11 +54,11 @@ fn finish_rounds(
     functions: &[u32],
     objects: &[u32],
     skips: &[u32],
-    known: &mut [u64; 2048],
-    infos: &mut [u64; 8192],
+    known: &mut [u64; entries::KNOWN],
+    infos: &mut [u64; entries::INFOS],
     lists: &mut [u64],
-    k: &mut [u64; 2176],
-    v: &mut [u64; 1536],
+    k: &mut [u64; places::KEYS],
+    v: &mut [u64; places::VALUES],
     code: obj::sections::Code,
     n: usize,
     room: usize,
@@ -115,16 +116,16 @@ fn detect(
     objects: &[u32],
     skips: &[u32],
     entry: &[u32],
-    known: &mut [u64; 2048],
-    infos: &mut [u64; 8192],
+    known: &mut [u64; entries::KNOWN],
+    infos: &mut [u64; entries::INFOS],
     lists: &mut [u64],
-    k: &mut [u64; 2176],
-    v: &mut [u64; 1536],
+    k: &mut [u64; places::KEYS],
+    v: &mut [u64; places::VALUES],
     code: obj::sections::Code,
     room: usize,
 ) -> Entries
     requires image { ⌜ Handed (now sections) (now bytes) (now outcomes) (now functions) (now objects) (now skips) code (now entry) ⌝ }
-    requires sizes { ⌜ (length (now known) ≡ 2048) × (length (now infos) ≡ 8192) ⌝ }
+    requires sizes { ⌜ (length (now known) ≡ KNOWN) × (length (now infos) ≡ INFOS) ⌝ }
     ensures { λ r. ⌜ ((l : Lent) → Displays l (now (sections .entry)) (now (bytes .entry)) (now (outcomes .entry)) (now (functions .entry)) (now (objects .entry)) (now (skips .entry)) code → l .entry ≡ now (entry .entry) → Entered (rules.detect (image l) (capacity room (now (lists .entry)))) (r .count) (now (known .exit)) (now (infos .exit)) (now (lists .exit)) (r .fault)) ⌝ }
 {
     let r = cfa_rounds::first::walk_given(
@@ -166,8 +167,8 @@ fn detect(
 
 // The map that the slices hold put into the lent lists, or zeros where there is a fault.
 fn put_map(
-    known: &[u64; 2048],
-    infos: &[u64; 8192],
+    known: &[u64; entries::KNOWN],
+    infos: &[u64; entries::INFOS],
     r: Entries,
     rows: &mut [u64],
     lists: &mut [u64],
@@ -208,10 +209,10 @@ fn map_checked(
     requires image { ⌜ Handed (now sections) (now bytes) (now outcomes) (now functions) (now objects) (now skips) code (now entry) ⌝ }
     ensures { λ r. ⌜ ((l : Lent) → Displays l (now (sections .entry)) (now (bytes .entry)) (now (outcomes .entry)) (now (functions .entry)) (now (objects .entry)) (now (skips .entry)) code → l .entry ≡ now (entry .entry) → Leaves (rules.detect (image l) (room-of (now (rows .entry)) (now (lists .entry)))) (now (rows .entry)) (now (lists .entry)) (now (rows .exit)) (now (lists .exit)) r) ⌝ }
 {
-    let mut known: [u64; 2048] = [0; 2048];
-    let mut infos: [u64; 8192] = [0; 8192];
-    let mut k: [u64; 2176] = [0; 2176];
-    let mut v: [u64; 1536] = [0; 1536];
+    let mut known: [u64; entries::KNOWN] = [0; entries::KNOWN];
+    let mut infos: [u64; entries::INFOS] = [0; entries::INFOS];
+    let mut k: [u64; places::KEYS] = [0; places::KEYS];
+    let mut v: [u64; places::VALUES] = [0; places::VALUES];
     let room = rows.len() / 10;
     let r = detect(
         sections,

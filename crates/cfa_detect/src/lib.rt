@@ -10,7 +10,7 @@ ghost use Rattle.rules.specs.Map as rules;
 ghost use Rattle.obj_rows.specs.Skips.{Ascending};
 ghost use Rattle.obj.specs.Lent.{Lent, image};
 ghost use Rattle.obj.specs.Sections.{InBytes};
-ghost use Rattle.known.specs.Table.{Kept, Knows};
+ghost use Rattle.known.specs.Table.{Kept, Knows, ENTRIES};
 ghost use Rattle.entries.specs.Table.{Holds, Good, capacity};
 ghost use Rattle.gaps.specs.Looks.{Looks};
 ghost use Rattle.cfa_entries.specs.Adding.{Entered};
@@ -58,14 +58,14 @@ fn new_functions(
     requires lent { ⌜ InBytes (now bytes) code × Ascending (now skips) ⌝ }
     requires low { ⌜ (code .number < 16) × (0 < code .number) ⌝ }
     requires table { ⌜ Kept n (now known) ⌝ }
-    requires room { ⌜ length (now keys) ≡ 1024 ⌝ }
+    requires room { ⌜ length (now keys) ≡ ENTRIES ⌝ }
     ensures { λ r. ⌜ IsNews (now (bytes .entry)) (now (skips .entry)) code n (now (known .entry)) (now (keys .exit)) r ⌝ }
 {
     let mut m: usize = 0;
     let mut i: usize = 0;
     while i < n {
         let after = next_entry(known, code, n, i);
-        let f = gaps::found_behind(bytes, skips, code, known[1024 + i], after);
+        let f = gaps::found_behind(bytes, skips, code, known[known::AT_ENDS + i], after);
         if f.fault != 0 {
             return News {
                 count: m,
@@ -80,8 +80,8 @@ fn new_functions(
 
 // Entries at the first m of the keys, added one after the other.
 fn add_entries(
-    known: &mut [u64; 2048],
-    infos: &mut [u64; 8192],
+    known: &mut [u64; entries::KNOWN],
+    infos: &mut [u64; entries::INFOS],
     lists: &[u64],
     n: usize,
     room: usize,
@@ -119,8 +119,8 @@ pub struct Detected {
 pub fn detect_new_functions(
     bytes: &[u8],
     skips: &[u32],
-    known: &mut [u64; 2048],
-    infos: &mut [u64; 8192],
+    known: &mut [u64; entries::KNOWN],
+    infos: &mut [u64; entries::INFOS],
     lists: &[u64],
     code: obj::sections::Code,
     n: usize,
@@ -131,7 +131,7 @@ pub fn detect_new_functions(
     requires good { ⌜ Good n (now known) (now infos) (now lists) ⌝ }
     ensures { λ r. ⌜ ((l : Lent) (es : List Entry) → Looks (now (bytes .entry)) (now (skips .entry)) code l → Holds n (now (known .entry)) (now (infos .entry)) (now (lists .entry)) es → IsRound (rules.detect-new-functions (image l) (capacity room (now (lists .entry))) es) (now (known .exit)) (now (infos .exit)) (now (lists .entry)) r) ⌝ }
 {
-    let mut keys: [u64; 1024] = [0; 1024];
+    let mut keys: [u64; known::ENTRIES] = [0; known::ENTRIES];
     let f = new_functions(bytes, skips, known, code, n, &mut keys);
     if f.fault != 0 {
         return Detected {

@@ -9,6 +9,8 @@ ghost use Rattle.obj_rows.specs.Skips.{Ascending};
 ghost use Rattle.obj.specs.Lent.{Lent, image};
 ghost use Rattle.entries.specs.Table.{Holds, Good, capacity};
 ghost use Rattle.cfa_entries.specs.Adding.{Looks, Looking, Entered};
+ghost use Rattle.lists.specs.Places.{AT-REFERENCES, KEYS};
+use lists::places;
 
 // How many entries there are, and the fault, 0 for none.
 pub struct Entries {
@@ -19,8 +21,8 @@ pub struct Entries {
 // An entry in code, not skipped.
 pub fn try_add_function(
     skips: &[u32],
-    known: &mut [u64; 2048],
-    infos: &mut [u64; 8192],
+    known: &mut [u64; entries::KNOWN],
+    infos: &mut [u64; entries::INFOS],
     lists: &[u64],
     code: obj::sections::Code,
     n: usize,
@@ -48,8 +50,8 @@ pub fn try_add_function(
 // The first m of the keys, one after the other.
 pub fn try_add_functions(
     skips: &[u32],
-    known: &mut [u64; 2048],
-    infos: &mut [u64; 8192],
+    known: &mut [u64; entries::KNOWN],
+    infos: &mut [u64; entries::INFOS],
     lists: &[u64],
     code: obj::sections::Code,
     n: usize,
@@ -78,8 +80,8 @@ pub fn try_add_functions(
 // The first m of a function's references, which are part of its numbers.
 pub fn add_references(
     skips: &[u32],
-    known: &mut [u64; 2048],
-    infos: &mut [u64; 8192],
+    known: &mut [u64; entries::KNOWN],
+    infos: &mut [u64; entries::INFOS],
     lists: &[u64],
     code: obj::sections::Code,
     n: usize,
@@ -90,10 +92,10 @@ pub fn add_references(
     requires good { ⌜ Good n (now known) (now infos) (now lists) ⌝ }
     requires order { ⌜ Ascending (now skips) ⌝ }
     requires image { ⌜ Looking (now skips) code ⌝ }
-    requires numbers { ⌜ (length (now k) ≡ 2176) × (m ≤ length (take 256 (drop 1280 (now k)))) ⌝ }
-    ensures { λ r. ⌜ ((l : Lent) (es : List Entry) → Looks l (now (skips .entry)) code → Holds n (now (known .entry)) (now (infos .entry)) (now (lists .entry)) es → Entered (rules.try-add-functions (image l) (capacity room (now (lists .entry))) (take m (take 256 (drop 1280 (now (k .entry))))) es) (r .count) (now (known .exit)) (now (infos .exit)) (now (lists .entry)) (r .fault)) ⌝ }
+    requires numbers { ⌜ (length (now k) ≡ KEYS) × (m ≤ length (take 256 (drop AT-REFERENCES (now k)))) ⌝ }
+    ensures { λ r. ⌜ ((l : Lent) (es : List Entry) → Looks l (now (skips .entry)) code → Holds n (now (known .entry)) (now (infos .entry)) (now (lists .entry)) es → Entered (rules.try-add-functions (image l) (capacity room (now (lists .entry))) (take m (take 256 (drop AT-REFERENCES (now (k .entry))))) es) (r .count) (now (known .exit)) (now (infos .exit)) (now (lists .entry)) (r .fault)) ⌝ }
 {
-    let a: usize = 1280;
-    let b: usize = 1536;
+    let a: usize = places::AT_REFERENCES;
+    let b: usize = places::AT_TABLES;
     try_add_functions(skips, known, infos, lists, code, n, room, &k[a..b], m)
 }

@@ -24,6 +24,7 @@ use Rattle.cfa_process.specs.Displayed.{Knowing}
 use Rattle.cfa_detect.specs.declared.Detected.{Detected}
 use Rattle.cfa_finalize.specs.Turns.{Ready, lowest, settled-lists, Turned}
 use Rattle.rules.proofs.Binds.{bind-assoc}
+use Rattle.lists.specs.Places.{POSSIBLE, AT-POSSIBLE}
 
 -- ---- the entries that there are
 
@@ -55,7 +56,7 @@ module _ (k v : List ℕ) (s : Small) where
 
   some-possible : Fit k v s → (s .possible ≡ 0 → ⊥) → empty (view k v s .possible) ≡ false
   unfolding view
-  some-possible fit h = by (take (s .possible) (part 1792 128 k)) (length-take-le (s .possible) (part 1792 128 k) (possible-fit k v s fit))
+  some-possible fit h = by (take (s .possible) (part AT-POSSIBLE POSSIBLE k)) (length-take-le (s .possible) (part AT-POSSIBLE POSSIBLE k) (possible-fit k v s fit))
     where
       by : (l : List ℕ) → length l ≡ s .possible → empty l ≡ false
       by [] e = absurd (h (sym e))

@@ -25,12 +25,13 @@ use Rattle.cfa_entries.proofs.Each.{Gone, gone, lost}
 use Rattle.cfa_entries.proofs.Keys.{keys-met}
 use Rattle.cfa_process.proofs.Keeping.{added}
 use Rattle.cfa_finalize.specs.Turns.{kept, Turned}
+use Rattle.lists.specs.Places.{AT-REFERENCES}
 
 -- ---- what it refers to, and the function itself
 
 module _ (l : Lent) (room : ℕ) (k v : List ℕ) (s : Small) (fit : Fit k v s) (es : List Entry) (lists : List ℕ) (n : ℕ) (known infos : List ℕ) (f : ℕ)
-    (r : Entered (rules.try-add-functions (image l) (capacity room lists) (take (s .references) (take 256 (drop 1280 k))) es) n known infos lists f) where
-  same-keys : view k v s .references ≡ take (s .references) (take 256 (drop 1280 k))
+    (r : Entered (rules.try-add-functions (image l) (capacity room lists) (take (s .references) (take 256 (drop AT-REFERENCES k))) es) n known infos lists f) where
+  same-keys : view k v s .references ≡ take (s .references) (take 256 (drop AT-REFERENCES k))
   unfolding view part
   same-keys = refl
 

@@ -13,7 +13,9 @@ ghost use Rattle.entries.specs.Table.{Holds, Good, capacity};
 ghost use Rattle.cfa_process.specs.Displayed.{Displays, Displayed};
 ghost use Rattle.cfa_detect.specs.Behind.{IsRound};
 ghost use Rattle.cfa_finalize.specs.Near.{Near, Noted, AreNoted};
+ghost use Rattle.known.specs.Table.{ENTRIES};
 use cfa_detect::Detected;
+use lists::places;
 
 // The key of entry i behind the m others, if the entry has lists and no end; how many there are then.
 fn put_unfinalized(
@@ -39,7 +41,7 @@ fn put_unfinalized(
 // The keys of the entries that have lists and no end; how many there are.
 fn unfinalized(known: &[u64], infos: &[u64], lists: &[u64], n: usize, keys: &mut [u64]) -> usize
     requires table { ⌜ Good n (now known) (now infos) (now lists) ⌝ }
-    requires room { ⌜ length (now keys) ≡ 1024 ⌝ }
+    requires room { ⌜ length (now keys) ≡ ENTRIES ⌝ }
     ensures { λ r. ⌜ AreNoted n (now (known .entry)) (now (infos .entry)) (now (lists .entry)) (now (keys .exit)) r ⌝ }
 {
     let mut m: usize = 0;
@@ -59,11 +61,11 @@ fn finalize_each(
     functions: &[u32],
     objects: &[u32],
     skips: &[u32],
-    known: &mut [u64; 2048],
-    infos: &mut [u64; 8192],
+    known: &mut [u64; entries::KNOWN],
+    infos: &mut [u64; entries::INFOS],
     lists: &mut [u64],
-    k: &mut [u64; 2176],
-    v: &mut [u64; 1536],
+    k: &mut [u64; places::KEYS],
+    v: &mut [u64; places::VALUES],
     code: obj::sections::Code,
     n: usize,
     room: usize,
@@ -73,7 +75,7 @@ fn finalize_each(
 ) -> Detected
     requires image { ⌜ Displayed (now sections) (now bytes) (now outcomes) (now functions) (now objects) (now skips) code ⌝ }
     requires near { ⌜ Near n (now known) (now infos) (now lists) ⌝ }
-    requires keys { ⌜ (m ≤ 1024) × (m ≤ length (now keys)) × ((es : List Entry) → Holds n (now known) (now infos) (now lists) es → take m (now keys) ≡ map entryOf (filter is-unfinalized es)) ⌝ }
+    requires keys { ⌜ (m ≤ ENTRIES) × (m ≤ length (now keys)) × ((es : List Entry) → Holds n (now known) (now infos) (now lists) es → take m (now keys) ≡ map entryOf (filter is-unfinalized es)) ⌝ }
     ensures { λ r. ⌜ ((l : Lent) (es : List Entry) → Displays l (now (sections .entry)) (now (bytes .entry)) (now (outcomes .entry)) (now (functions .entry)) (now (objects .entry)) (now (skips .entry)) code → Holds n (now (known .entry)) (now (infos .entry)) (now (lists .entry)) es → IsRound (rules.finalize-functions (image l) (capacity room (now (lists .entry))) last es) (now (known .exit)) (now (infos .exit)) (now (lists .exit)) r) ⌝ }
 {
     let mut count = n;
@@ -122,11 +124,11 @@ pub fn finalize_functions(
     functions: &[u32],
     objects: &[u32],
     skips: &[u32],
-    known: &mut [u64; 2048],
-    infos: &mut [u64; 8192],
+    known: &mut [u64; entries::KNOWN],
+    infos: &mut [u64; entries::INFOS],
     lists: &mut [u64],
-    k: &mut [u64; 2176],
-    v: &mut [u64; 1536],
+    k: &mut [u64; places::KEYS],
+    v: &mut [u64; places::VALUES],
     code: obj::sections::Code,
     n: usize,
     room: usize,
@@ -137,7 +139,7 @@ pub fn finalize_functions(
     requires near { ⌜ Near n (now known) (now infos) (now lists) ⌝ }
     ensures { λ r. ⌜ ((l : Lent) (es : List Entry) → Displays l (now (sections .entry)) (now (bytes .entry)) (now (outcomes .entry)) (now (functions .entry)) (now (objects .entry)) (now (skips .entry)) code → Holds n (now (known .entry)) (now (infos .entry)) (now (lists .entry)) es → IsRound (rules.finalize-functions (image l) (capacity room (now (lists .entry))) last es) (now (known .exit)) (now (infos .exit)) (now (lists .exit)) r) ⌝ }
 {
-    let mut keys: [u64; 1024] = [0; 1024];
+    let mut keys: [u64; known::ENTRIES] = [0; known::ENTRIES];
     let m = unfinalized(known, infos, lists, n, &mut keys);
     finalize_each(
         sections,

@@ -19,12 +19,13 @@ ghost use Rattle.cfa_process.specs.Displayed.{Displays, Displayed, Knowing};
 ghost use Rattle.cfa_finalize.specs.Turns.{Owns, Ready, kept, settled-lists, Turned};
 use cfa_detect::Detected;
 use cfa_entries::Entries;
+use lists::places;
 
 // What the finalized function refers to becomes an entry; then the function is stored with its end.
 fn keep_final(
     skips: &[u32],
-    known: &mut [u64; 2048],
-    infos: &mut [u64; 8192],
+    known: &mut [u64; entries::KNOWN],
+    infos: &mut [u64; entries::INFOS],
     lists: &mut [u64],
     k: &[u64],
     v: &[u64],
@@ -57,11 +58,11 @@ fn keep_settled(
     sections: &[u32],
     bytes: &[u8],
     skips: &[u32],
-    known: &mut [u64; 2048],
-    infos: &mut [u64; 8192],
+    known: &mut [u64; entries::KNOWN],
+    infos: &mut [u64; entries::INFOS],
     lists: &mut [u64],
-    k: &mut [u64; 2176],
-    v: &mut [u64; 1536],
+    k: &mut [u64; places::KEYS],
+    v: &mut [u64; places::VALUES],
     code: obj::sections::Code,
     n: usize,
     room: usize,
@@ -94,8 +95,8 @@ fn load_at(
     known: &[u64],
     infos: &[u64],
     lists: &[u64],
-    k: &mut [u64; 2176],
-    v: &mut [u64; 1536],
+    k: &mut [u64; places::KEYS],
+    v: &mut [u64; places::VALUES],
     n: usize,
     key: u64,
 ) -> lists::Small
@@ -103,7 +104,7 @@ fn load_at(
     ensures { λ r. ⌜ ((es : List Entry) (s : Slices) → Holds n (now (known .entry)) (now (infos .entry)) (now (lists .entry)) es → Owns es key s → Is (ok s) (now (k .entry)) (now (k .exit)) (now (v .exit)) r) ⌝ }
 {
     let a: usize = 0;
-    let b: usize = 1024;
+    let b: usize = known::AT_ENDS;
     let f = ordered::find(&known[a..b], n, key);
     entries::load(known, infos, lists, n, f.at, k, v)
 }
@@ -117,8 +118,8 @@ fn settle_lists(
     objects: &[u32],
     skips: &[u32],
     known: &[u64],
-    k: &mut [u64; 2176],
-    v: &mut [u64; 1536],
+    k: &mut [u64; places::KEYS],
+    v: &mut [u64; places::VALUES],
     code: obj::sections::Code,
     n: usize,
     key: u64,
@@ -166,11 +167,11 @@ pub fn finalize_function(
     functions: &[u32],
     objects: &[u32],
     skips: &[u32],
-    known: &mut [u64; 2048],
-    infos: &mut [u64; 8192],
+    known: &mut [u64; entries::KNOWN],
+    infos: &mut [u64; entries::INFOS],
     lists: &mut [u64],
-    k: &mut [u64; 2176],
-    v: &mut [u64; 1536],
+    k: &mut [u64; places::KEYS],
+    v: &mut [u64; places::VALUES],
     code: obj::sections::Code,
     n: usize,
     room: usize,

@@ -29,6 +29,7 @@ use Rattle.cfa_entries.specs.Adding.{Looks, Looking, Entered}
 use Rattle.cfa_entries.proofs.Each.{Gone, gone, lost}
 use Rattle.cfa_entries.proofs.Keys.{keys-met}
 use Rattle.cfa_process.specs.Shown.{Shows, Shown}
+use Rattle.lists.specs.Places.{POSSIBLE, AT-REFERENCES, AT-POSSIBLE}
 
 -- ---- what the image gives
 
@@ -65,13 +66,13 @@ module _ (l : Lent) (cap : rules.Capacity) (key : ℕ) (x : Slices) (es : List E
 
 -- ---- after what it refers to
 
-pub keys-fit : (k v : List ℕ) (s : Small) → Fit k v s → s .references ≤ length (take 256 (drop 1280 k))
+pub keys-fit : (k v : List ℕ) (s : Small) → Fit k v s → s .references ≤ length (take 256 (drop AT-REFERENCES k))
 unfolding part
 keys-fit k v s f = references-fit k v s f
 
 module _ (l : Lent) (room : ℕ) (k v : List ℕ) (s : Small) (fit : Fit k v s) (es : List Entry) (lists : List ℕ) (n : ℕ) (known infos : List ℕ) (f : ℕ)
-    (r : Entered (rules.try-add-functions (image l) (capacity room lists) (take (s .references) (take 256 (drop 1280 k))) es) n known infos lists f) where
-  same-keys : view k v s .references ≡ take (s .references) (take 256 (drop 1280 k))
+    (r : Entered (rules.try-add-functions (image l) (capacity room lists) (take (s .references) (take 256 (drop AT-REFERENCES k))) es) n known infos lists f) where
+  same-keys : view k v s .references ≡ take (s .references) (take 256 (drop AT-REFERENCES k))
   unfolding view part
   same-keys = refl
 
@@ -81,8 +82,8 @@ module _ (l : Lent) (room : ℕ) (k v : List ℕ) (s : Small) (fit : Fit k v s) 
       let q : rules.try-add-functions (image l) (capacity room lists) (view k v s .references) es ≡ fault f = ap (λ (ks : List ℕ). rules.try-add-functions (image l) (capacity room lists) ks es) same-keys ∙ lost n known infos lists f _ (r .told) h in
       rw q (record { told = refl })
 
-  pub added : f ≡ 0 → Gone (rules.try-add-functions (image l) (capacity room lists) (take (s .references) (take 256 (drop 1280 k))) es) n known infos lists
-  added z = gone n known infos lists f _ (keys-met (image l) (capacity room lists) (take (s .references) (take 256 (drop 1280 k))) es) (r .told) z
+  pub added : f ≡ 0 → Gone (rules.try-add-functions (image l) (capacity room lists) (take (s .references) (take 256 (drop AT-REFERENCES k))) es) n known infos lists
+  added z = gone n known infos lists f _ (keys-met (image l) (capacity room lists) (take (s .references) (take 256 (drop AT-REFERENCES k))) es) (r .told) z
 
   pub good-then : f ≡ 0 → Good n known infos lists
   good-then z = record { entries = added z .entries; holds = added z .holds }
@@ -97,7 +98,7 @@ module _ (l : Lent) (room : ℕ) (k v : List ℕ) (s : Small) (fit : Fit k v s) 
 
     some-possible : (s .possible ≡ 0 → ⊥) → empty (view k v s .possible) ≡ false
     unfolding view
-    some-possible h = by (take (s .possible) (part 1792 128 k)) (length-take-le (s .possible) (part 1792 128 k) (possible-fit k v s fit))
+    some-possible h = by (take (s .possible) (part AT-POSSIBLE POSSIBLE k)) (length-take-le (s .possible) (part AT-POSSIBLE POSSIBLE k) (possible-fit k v s fit))
       where
         by : (l : List ℕ) → length l ≡ s .possible → empty l ≡ false
         by [] e = absurd (h (sym e))

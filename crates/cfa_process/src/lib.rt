@@ -14,6 +14,7 @@ ghost use Rattle.analyze.specs.Analysis.{IsAnalyzed};
 ghost use Rattle.cfa_entries.specs.Adding.{Entered};
 ghost use Rattle.cfa_process.specs.Displayed.{Displays, Displayed, Knowing};
 use cfa_entries::Entries;
+use lists::places;
 
 // The analysis of the function at key, up to its end if that is known, on an empty value.
 fn analyze_at(
@@ -24,8 +25,8 @@ fn analyze_at(
     objects: &[u32],
     skips: &[u32],
     known: &[u64],
-    k: &mut [u64; 2176],
-    v: &mut [u64; 1536],
+    k: &mut [u64; places::KEYS],
+    v: &mut [u64; places::VALUES],
     code: obj::sections::Code,
     n: usize,
     key: u64,
@@ -65,11 +66,11 @@ pub fn process_function_at(
     functions: &[u32],
     objects: &[u32],
     skips: &[u32],
-    known: &mut [u64; 2048],
-    infos: &mut [u64; 8192],
+    known: &mut [u64; entries::KNOWN],
+    infos: &mut [u64; entries::INFOS],
     lists: &mut [u64],
-    k: &mut [u64; 2176],
-    v: &mut [u64; 1536],
+    k: &mut [u64; places::KEYS],
+    v: &mut [u64; places::VALUES],
     code: obj::sections::Code,
     n: usize,
     room: usize,

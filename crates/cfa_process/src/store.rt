@@ -9,11 +9,12 @@ ghost use Rattle.entries.specs.Table.{Holds, Good, capacity};
 ghost use Rattle.cfa_entries.specs.Adding.{Entered};
 ghost use Rattle.cfa_process.specs.Shown.{Shows, Shown};
 use cfa_entries::Entries;
+use lists::places;
 
 // Stored with an end, 0 for none.
 fn keep(
-    known: &mut [u64; 2048],
-    infos: &mut [u64; 8192],
+    known: &mut [u64; entries::KNOWN],
+    infos: &mut [u64; entries::INFOS],
     lists: &mut [u64],
     k: &[u64],
     v: &[u64],
@@ -39,11 +40,11 @@ pub fn store_final(
     sections: &[u32],
     bytes: &[u8],
     skips: &[u32],
-    known: &mut [u64; 2048],
-    infos: &mut [u64; 8192],
+    known: &mut [u64; entries::KNOWN],
+    infos: &mut [u64; entries::INFOS],
     lists: &mut [u64],
-    k: &mut [u64; 2176],
-    v: &mut [u64; 1536],
+    k: &mut [u64; places::KEYS],
+    v: &mut [u64; places::VALUES],
     code: obj::sections::Code,
     n: usize,
     room: usize,
@@ -71,11 +72,11 @@ pub fn store_function(
     sections: &[u32],
     bytes: &[u8],
     skips: &[u32],
-    known: &mut [u64; 2048],
-    infos: &mut [u64; 8192],
+    known: &mut [u64; entries::KNOWN],
+    infos: &mut [u64; entries::INFOS],
     lists: &mut [u64],
-    k: &mut [u64; 2176],
-    v: &mut [u64; 1536],
+    k: &mut [u64; places::KEYS],
+    v: &mut [u64; places::VALUES],
     code: obj::sections::Code,
     n: usize,
     room: usize,

@@ -6,11 +6,12 @@ ghost use lib.ListN.{length};
 ghost use Rattle.rules.specs.Known.{Entry};
 ghost use Rattle.rules.specs.Map as rules;
 ghost use Rattle.obj.specs.Lent.{Lent, image};
-ghost use Rattle.entries.specs.Table.{Holds, Good, capacity};
+ghost use Rattle.entries.specs.Table.{Holds, Good, capacity, KNOWN, INFOS};
 ghost use Rattle.cfa_entries.specs.Adding.{Entered};
 ghost use Rattle.cfa_process.specs.Displayed.{Displays, Displayed};
 ghost use Rattle.cfa_rounds.specs.Walks.{process-given, Put};
 use cfa_entries::Entries;
+use lists::places;
 
 // The entry point, if there is one, put behind n keys.
 fn put_entry_point(entry: &[u32], code: obj::sections::Code, keys: &mut [u64], n: usize) -> usize
@@ -34,11 +35,11 @@ fn process_given(
     objects: &[u32],
     skips: &[u32],
     entry: &[u32],
-    known: &mut [u64; 2048],
-    infos: &mut [u64; 8192],
+    known: &mut [u64; entries::KNOWN],
+    infos: &mut [u64; entries::INFOS],
     lists: &mut [u64],
-    k: &mut [u64; 2176],
-    v: &mut [u64; 1536],
+    k: &mut [u64; places::KEYS],
+    v: &mut [u64; places::VALUES],
     code: obj::sections::Code,
     n: usize,
     room: usize,
@@ -78,16 +79,16 @@ pub fn walk_given(
     objects: &[u32],
     skips: &[u32],
     entry: &[u32],
-    known: &mut [u64; 2048],
-    infos: &mut [u64; 8192],
+    known: &mut [u64; entries::KNOWN],
+    infos: &mut [u64; entries::INFOS],
     lists: &mut [u64],
-    k: &mut [u64; 2176],
-    v: &mut [u64; 1536],
+    k: &mut [u64; places::KEYS],
+    v: &mut [u64; places::VALUES],
     code: obj::sections::Code,
     room: usize,
 ) -> Entries
     requires image { ⌜ Displayed (now sections) (now bytes) (now outcomes) (now functions) (now objects) (now skips) code ⌝ }
-    requires sizes { ⌜ (length (now known) ≡ 2048) × (length (now infos) ≡ 8192) ⌝ }
+    requires sizes { ⌜ (length (now known) ≡ KNOWN) × (length (now infos) ≡ INFOS) ⌝ }
     ensures { λ r. ⌜ ((l : Lent) → Displays l (now (sections .entry)) (now (bytes .entry)) (now (outcomes .entry)) (now (functions .entry)) (now (objects .entry)) (now (skips .entry)) code → l .entry ≡ now (entry .entry) → Entered (rules.walk-given (image l) (capacity room (now (lists .entry)))) (r .count) (now (known .exit)) (now (infos .exit)) (now (lists .exit)) (r .fault)) ⌝ }
 {
     let r = cfa_symbols::first_entries(functions, known, infos, lists, code, room);

@@ -11,7 +11,7 @@ ghost use Rattle.rules.specs.Map as rules;
 ghost use Rattle.obj_rows.specs.Symbols.{symbol-of};
 ghost use Rattle.obj.specs.Lent.{Lent, image};
 ghost use Rattle.obj.specs.Sections.{IsCode};
-ghost use Rattle.entries.specs.Table.{Holds, Good, capacity};
+ghost use Rattle.entries.specs.Table.{Holds, Good, capacity, KNOWN, INFOS};
 ghost use Rattle.cfa_entries.specs.Adding.{Entered};
 ghost use Rattle.cfa_symbols.specs.Listed.{Lists, Listed};
 use cfa_entries::Entries;
@@ -30,8 +30,8 @@ fn end_of(key: u64, s: Symbol) -> u64
 
 // A function symbol is an entry, with its end if the size is known.
 fn add_symbol(
-    known: &mut [u64; 2048],
-    infos: &mut [u64; 8192],
+    known: &mut [u64; entries::KNOWN],
+    infos: &mut [u64; entries::INFOS],
     lists: &[u64],
     code: obj::sections::Code,
     n: usize,
@@ -54,14 +54,14 @@ fn add_symbol(
 // Each of the symbols, from no entries at all.
 fn add_symbols(
     functions: &[u32],
-    known: &mut [u64; 2048],
-    infos: &mut [u64; 8192],
+    known: &mut [u64; entries::KNOWN],
+    infos: &mut [u64; entries::INFOS],
     lists: &[u64],
     code: obj::sections::Code,
     room: usize,
 ) -> Entries
     requires image { ⌜ Listed (now functions) code ⌝ }
-    requires sizes { ⌜ (length (now known) ≡ 2048) × (length (now infos) ≡ 8192) ⌝ }
+    requires sizes { ⌜ (length (now known) ≡ KNOWN) × (length (now infos) ≡ INFOS) ⌝ }
     ensures { λ r. ⌜ ((l : Lent) → Lists l (now (functions .entry)) code → Entered (rules.add-symbols (image l) (capacity room (now (lists .entry))) (image l .functions) []) (r .count) (now (known .exit)) (now (infos .exit)) (now (lists .entry)) (r .fault)) ⌝ }
 {
     let mut r = Entries { count: 0, fault: 0 };
@@ -80,14 +80,14 @@ fn add_symbols(
 // The function symbols, and the code section's first word, which is always an entry.
 pub fn first_entries(
     functions: &[u32],
-    known: &mut [u64; 2048],
-    infos: &mut [u64; 8192],
+    known: &mut [u64; entries::KNOWN],
+    infos: &mut [u64; entries::INFOS],
     lists: &[u64],
     code: obj::sections::Code,
     room: usize,
 ) -> Entries
     requires image { ⌜ Listed (now functions) code ⌝ }
-    requires sizes { ⌜ (length (now known) ≡ 2048) × (length (now infos) ≡ 8192) ⌝ }
+    requires sizes { ⌜ (length (now known) ≡ KNOWN) × (length (now infos) ≡ INFOS) ⌝ }
     ensures { λ r. ⌜ ((l : Lent) → Lists l (now (functions .entry)) code → Entered (rules.first-entries (image l) (capacity room (now (lists .entry)))) (r .count) (now (known .exit)) (now (infos .exit)) (now (lists .entry)) (r .fault)) ⌝ }
 {
     let r = add_symbols(functions, known, infos, lists, code, room);

@@ -14,6 +14,7 @@ use Rattle.lists.specs.declared.Small.{Small}
 use Rattle.stored.proofs.Numbers.{froms-count, tos-count}
 use Rattle.entries.specs.Columns.{small-of, columns-of, Right, numbers-long, cut, Limits, Keys, Values}
 use Rattle.entries.proofs.Places.{long-is, cut-is}
+use Rattle.lists.specs.Places.{AT-REFERENCES, AT-TABLES, AT-POSSIBLE, KEYS, VALUES}
 
 -- ---- the numbers of a function's lists
 
@@ -75,7 +76,7 @@ fewer : (a m n : ℕ) (xs ys : List ℕ) → m ≤ n → length ys ≡ m → par
 unfolding part
 fewer a m n xs ys h l e = take-take m n (drop a xs) h ∙ e ∙ sym (take-all m ys (omega arith))
 
-module _ (s : Slices) (right : Right s) (k k′ v v′ : List ℕ) (lk : length k ≡ 2176) (lv : length v ≡ 1536) (ks : Keys (small-of s) (numbers s) k k′) (vs : Values (small-of s) (numbers s) v v′) where
+module _ (s : Slices) (right : Right s) (k k′ v v′ : List ℕ) (lk : length k ≡ KEYS) (lv : length v ≡ VALUES) (ks : Keys (small-of s) (numbers s) k k′) (vs : Values (small-of s) (numbers s) v v′) where
   agree : Agree (small-of s) (parts k′ v′) (columns-of s)
   agree =
       let c : cut (small-of s) (numbers s) ≡ columns-of s = numbers-cut s in
@@ -84,10 +85,10 @@ module _ (s : Slices) (right : Right s) (k k′ v v′ : List ℕ) (lk : length 
         ends = fewer 0 _ 256 v′ (map endOf (s .blocks)) (right .held .blocks-fit) (length-map (s .blocks) endOf) (vs .ends ∙ ap (λ (p : Parts). p .ends) c);
         froms = fewer 256 _ 1024 k′ (way-froms (s .ways)) (right .held .ways-fit) (froms-count (s .ways)) (ks .froms ∙ ap (λ (p : Parts). p .froms) c);
         tos = fewer 256 _ 1024 v′ (way-tos (s .ways)) (right .held .ways-fit) (tos-count (s .ways)) (vs .tos ∙ ap (λ (p : Parts). p .tos) c);
-        references = fewer 1280 _ 256 k′ (s .references) (right .held .references-fit) refl (ks .references ∙ ap (λ (p : Parts). p .references) c);
-        addresses = fewer 1536 _ 256 k′ (map addressOf (s .tables)) (right .held .tables-fit) (length-map (s .tables) addressOf) (ks .addresses ∙ ap (λ (p : Parts). p .addresses) c);
-        sizes = fewer 1280 _ 256 v′ (map sizeOf (s .tables)) (right .held .tables-fit) (length-map (s .tables) sizeOf) (vs .sizes ∙ ap (λ (p : Parts). p .sizes) c);
-        possible = fewer 1792 _ 128 k′ (s .possible) (right .held .possible-fit) refl (ks .possible ∙ ap (λ (p : Parts). p .possible) c);
+        references = fewer AT-REFERENCES _ 256 k′ (s .references) (right .held .references-fit) refl (ks .references ∙ ap (λ (p : Parts). p .references) c);
+        addresses = fewer AT-TABLES _ 256 k′ (map addressOf (s .tables)) (right .held .tables-fit) (length-map (s .tables) addressOf) (ks .addresses ∙ ap (λ (p : Parts). p .addresses) c);
+        sizes = fewer AT-REFERENCES _ 256 v′ (map sizeOf (s .tables)) (right .held .tables-fit) (length-map (s .tables) sizeOf) (vs .sizes ∙ ap (λ (p : Parts). p .sizes) c);
+        possible = fewer AT-POSSIBLE _ 128 k′ (s .possible) (right .held .possible-fit) refl (ks .possible ∙ ap (λ (p : Parts). p .possible) c);
       }
 
   pub lists-loaded : Is (ok s) k k′ v′ (small-of s)

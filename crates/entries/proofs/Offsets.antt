@@ -18,6 +18,7 @@ use Rattle.entries.specs.Columns.{small-of, numbers-long, Limits, Keys, 
 use Rattle.entries.specs.Table.{odd, small-from, row-size, sizes, Holds, Good}
 use Rattle.entries.proofs.Loading.{lists-loaded}
 use Rattle.entries.proofs.Rows.{row-within, offset-is, size-is, numbers-within, numbers-at, limits-at, right-here, small-here, numbers-here}
+use Rattle.lists.specs.Places.{KEYS, VALUES}
 
 -- ---- a row read
 
@@ -102,7 +103,7 @@ module _ (n : ℕ) (known infos lists : List ℕ) (i : ℕ) (lt : i < n) where
         let c : (at + m) - at ≡ m = omega arith in
         ap₂ (λ (j p : ℕ). take j (drop p lists)) (c ∙ em ∙ ap numbers-long es) ea ∙ numbers-here n known infos lists entries h i lt x ex
 
-    pub loaded : (k k′ v v′ : List ℕ) → length k ≡ 2176 → length v ≡ 1536 → Keys s (take ((at + m) - at) (drop at lists)) k k′ → Values s (take ((at + m) - at) (drop at lists)) v v′ → Is (ok x) k k′ v′ s
+    pub loaded : (k k′ v v′ : List ℕ) → length k ≡ KEYS → length v ≡ VALUES → Keys s (take ((at + m) - at) (drop at lists)) k k′ → Values s (take ((at + m) - at) (drop at lists)) v v′ → Is (ok x) k k′ v′ s
     loaded k k′ v v′ lk lv ks vs =
         let e : s ≡ small-of x = es ∙ small-here n known infos lists entries h i lt x ex in
         rw e (lists-loaded x (right-here n known infos lists entries h i lt x ex) k k′ v v′ lk lv (rw (e, are-numbers) at ks) (rw (e, are-numbers) at vs))

@@ -8,6 +8,7 @@ use Rattle.rules.specs.Slices.{Slices, addressOf, count-ways}
 use Rattle.rules.specs.OneFunction.{endOf, sizeOf, way-froms, way-tos}
 use Rattle.lists.specs.View.{Parts, parts-of, part, lists-of, Held}
 use Rattle.lists.specs.declared.Small.{Small}
+use Rattle.lists.specs.Places.{BLOCKS, BRANCHES, REFERENCES, TABLES, POSSIBLE, AT-REFERENCES, AT-TABLES, AT-POSSIBLE, AT-PENDING}
 
 -- how many elements each list has, and what is no list
 abbrev pub small-of : Slices → Small
@@ -61,25 +62,25 @@ module _ (s : Small) where
 
 -- each count is within its limit
 pub record Limits (s : Small) : Type 0 where
-  pub blocks-fit : s .blocks ≤ 256
-  pub ways-fit : s .ways ≤ 1024
-  pub references-fit : s .references ≤ 256
-  pub tables-fit : s .tables ≤ 256
-  pub possible-fit : s .possible ≤ 128
+  pub blocks-fit : s .blocks ≤ BLOCKS
+  pub ways-fit : s .ways ≤ BRANCHES
+  pub references-fit : s .references ≤ REFERENCES
+  pub tables-fit : s .tables ≤ TABLES
+  pub possible-fit : s .possible ≤ POSSIBLE
 
 -- the keys of the numbers l stand in k′, and what is pending is as it was in k
 pub record Keys (s : Small) (l k k′ : List ℕ) : Type 0 where
   pub size : length k′ ≡ length k
   pub starts : part 0 (s .blocks) k′ ≡ part 0 (s .blocks) l
   pub froms : part 256 (s .ways) k′ ≡ part (at-froms s) (s .ways) l
-  pub references : part 1280 (s .references) k′ ≡ part (at-references s) (s .references) l
-  pub addresses : part 1536 (s .tables) k′ ≡ part (at-addresses s) (s .tables) l
-  pub possible : part 1792 (s .possible) k′ ≡ part (at-possible s) (s .possible) l
-  pub pending : drop 1920 k′ ≡ drop 1920 k
+  pub references : part AT-REFERENCES (s .references) k′ ≡ part (at-references s) (s .references) l
+  pub addresses : part AT-TABLES (s .tables) k′ ≡ part (at-addresses s) (s .tables) l
+  pub possible : part AT-POSSIBLE (s .possible) k′ ≡ part (at-possible s) (s .possible) l
+  pub pending : drop AT-PENDING k′ ≡ drop AT-PENDING k
 
 -- the values of the numbers l stand in v′
 pub record Values (s : Small) (l v v′ : List ℕ) : Type 0 where
   pub size : length v′ ≡ length v
   pub ends : part 0 (s .blocks) v′ ≡ part (s .blocks) (s .blocks) l
   pub tos : part 256 (s .ways) v′ ≡ part (at-tos s) (s .ways) l
-  pub sizes : part 1280 (s .tables) v′ ≡ part (at-sizes s) (s .tables) l
+  pub sizes : part AT-REFERENCES (s .tables) v′ ≡ part (at-sizes s) (s .tables) l

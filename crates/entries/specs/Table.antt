@@ -17,6 +17,13 @@ use Rattle.lists.specs.declared.Small.{Small}
 use Rattle.known.specs.Table.{known-rows, Kept, Knows}
 use Rattle.entries.specs.Columns.{small-of, Right, numbers-long, slices-from}
 
+-- how long the two slices of fixed length are: entries with their ends, and rows of eight
+abbrev pub KNOWN : ℕ
+KNOWN = 2048
+
+abbrev pub INFOS : ℕ
+INFOS = 8192
+
 -- ---- a row: flags, prologue, epilogue, and the counts of blocks, ways on, references, jump tables, possible blocks
 
 abbrev pub flag : Bool → ℕ
@@ -100,7 +107,7 @@ AllRight (x ∷ es) = RightIn (x .slices) × AllRight es
 pub record Holds (n : ℕ) (known infos lists : List ℕ) (es : List Entry) : Type 0 where
   pub kept : Kept n known
   pub knows : Knows n known es
-  pub lent : length infos ≡ 8192
+  pub lent : length infos ≡ INFOS
   pub rows : Begins (flat info-row es) infos
   pub numbers : Begins (flat entry-numbers es) lists
   pub right : AllRight es

@@ -17,6 +17,13 @@ ghost use Rattle.lists.specs.View.{Is};
 ghost use Rattle.known.specs.Table.{Kept, Knows};
 ghost use Rattle.entries.specs.Columns.{numbers-long, Limits, Keys, Values};
 ghost use Rattle.entries.specs.Table.{odd, small-from, row-size, sizes, Holds, Good};
+ghost use Rattle.lists.specs.Places.{KEYS, VALUES};
+use lists::places;
+
+// How long the two slices of fixed length are: entries with their ends, and rows of eight.
+pub const KNOWN: usize = 2048;
+
+pub const INFOS: usize = 8192;
 
 // Whether the lowest bit is set.
 fn is_odd(x: u64) -> bool
@@ -94,31 +101,31 @@ fn put(xs: &mut [u64], a: usize, l: &[u64], at: usize, n: usize)
 
 // The keys among a function's numbers.
 fn put_keys(k: &mut [u64], l: &[u64], s: lists::Small)
-    requires { ⌜ Limits s × (length (now l) ≡ numbers-long s) × (length (now k) ≡ 2176) ⌝ }
+    requires { ⌜ Limits s × (length (now l) ≡ numbers-long s) × (length (now k) ≡ KEYS) ⌝ }
     ensures { λ _. ⌜ Keys s (now (l .entry)) (now (k .entry)) (now (k .exit)) ⌝ }
 {
     let b = s.blocks + s.blocks;
     let c = b + s.ways + s.ways;
     let d = c + s.references;
     let e = d + s.tables + s.tables;
-    put(k, 0, l, 0, s.blocks);
-    put(k, 256, l, b, s.ways);
-    put(k, 1280, l, c, s.references);
-    put(k, 1536, l, d, s.tables);
-    put(k, 1792, l, e, s.possible);
+    put(k, places::AT_BLOCKS, l, 0, s.blocks);
+    put(k, places::AT_BRANCHES, l, b, s.ways);
+    put(k, places::AT_REFERENCES, l, c, s.references);
+    put(k, places::AT_TABLES, l, d, s.tables);
+    put(k, places::AT_POSSIBLE, l, e, s.possible);
 }
 
 // The values among them.
 fn put_values(v: &mut [u64], l: &[u64], s: lists::Small)
-    requires { ⌜ Limits s × (length (now l) ≡ numbers-long s) × (length (now v) ≡ 1536) ⌝ }
+    requires { ⌜ Limits s × (length (now l) ≡ numbers-long s) × (length (now v) ≡ VALUES) ⌝ }
     ensures { λ _. ⌜ Values s (now (l .entry)) (now (v .entry)) (now (v .exit)) ⌝ }
 {
     let a = s.blocks;
     let b = a + a + s.ways;
     let c = b + s.ways + s.references + s.tables;
-    put(v, 0, l, a, a);
-    put(v, 256, l, b, s.ways);
-    put(v, 1280, l, c, s.tables);
+    put(v, places::AT_BLOCKS, l, a, a);
+    put(v, places::AT_BRANCHES, l, b, s.ways);
+    put(v, places::AT_SIZES, l, c, s.tables);
 }
 
 // The lists of entry i, which has some.
@@ -132,7 +139,7 @@ pub fn load(
     v: &mut [u64],
 ) -> lists::Small
     requires table { ⌜ Good n (now known) (now infos) (now lists) × (i < n) ⌝ }
-    requires lent { ⌜ (length (now k) ≡ 2176) × (length (now v) ≡ 1536) ⌝ }
+    requires lent { ⌜ (length (now k) ≡ KEYS) × (length (now v) ≡ VALUES) ⌝ }
     ensures { λ r. ⌜ ((es : List Entry) (s : Slices) → Holds n (now (known .entry)) (now (infos .entry)) (now (lists .entry)) es → getD es i (new-entry 0) .slices ≡ some s → Is (ok s) (now (k .entry)) (now (k .exit)) (now (v .exit)) r) ⌝ }
 {
     let s = read_row(infos, i * 8);
@@ -178,7 +185,7 @@ pub fn is_unfinalized(known: &[u64], infos: &[u64], lists: &[u64], n: usize, i: 
     requires { ⌜ Good n (now known) (now infos) (now lists) × (i < n) ⌝ }
     ensures { λ r. ⌜ ((es : List Entry) → Holds n (now (known .entry)) (now (infos .entry)) (now (lists .entry)) es → r ≡ rules.is-unfinalized (getD es i (new-entry 0))) ⌝ }
 {
-    lacks_end(infos[i * 8], known[1024 + i])
+    lacks_end(infos[i * 8], known[known::AT_ENDS + i])
 }
 
 // Whether one of them is.
@@ -202,11 +209,11 @@ pub fn end_of_entry(known: &[u64], n: usize, k: u64) -> u64
     ensures { λ r. ⌜ ((es : List Entry) → Knows n (now (known .entry)) es → r ≡ rules.end-of-entry k es) ⌝ }
 {
     let a: usize = 0;
-    let b: usize = 1024;
+    let b: usize = known::AT_ENDS;
     let f = ordered::find(&known[a..b], n, k);
     if f.hit {
         let at = f.at;
-        return known[1024 + at];
+        return known[known::AT_ENDS + at];
     }
     0
 }

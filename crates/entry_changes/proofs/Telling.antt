@@ -17,6 +17,7 @@ use Rattle.stored.proofs.Columns.{starts-are, ends-are, froms-are, tos-are, add
 use Rattle.entries.specs.Columns.{small-of, columns-of, Right}
 use Rattle.entries.specs.Table.{row}
 use Rattle.entries.proofs.Loading.{Agree, agree-lists, agree-held}
+use Rattle.lists.specs.Places.{BLOCKS, BRANCHES, REFERENCES, TABLES, POSSIBLE, AT-BLOCKS, AT-BRANCHES, AT-REFERENCES, AT-TABLES, AT-POSSIBLE, AT-SIZES}
 
 -- the numbers without the fault
 abbrev pub fine : Small → Small
@@ -33,29 +34,29 @@ module _ (k v : List ℕ) (s : Small) (f : Fit k v s) where
   ways-count : count-ways (view k v s .ways) ≡ s .ways
   unfolding view
   ways-count =
-      sym (froms-count (view k v s .ways)) ∙ ap length (froms-are (s .ways) (part 256 1024 k) (part 256 1024 v) (froms-fit k v s f) (tos-fit k v s f))
-      ∙ length-take-le (s .ways) (part 256 1024 k) (froms-fit k v s f)
+      sym (froms-count (view k v s .ways)) ∙ ap length (froms-are (s .ways) (part AT-BRANCHES BRANCHES k) (part AT-BRANCHES BRANCHES v) (froms-fit k v s f) (tos-fit k v s f))
+      ∙ length-take-le (s .ways) (part AT-BRANCHES BRANCHES k) (froms-fit k v s f)
 
   -- as many as the slices say
   pub small-is : small-of (view k v s) ≡ fine s
   unfolding view
   small-is =
-      counts (fine s) (rows-length block (s .blocks) (part 0 256 k) (part 0 256 v) (starts-fit k v s f) (ends-fit k v s f)) ways-count
-      (length-take-le (s .references) (part 1280 256 k) (references-fit k v s f))
-      (rows-length table (s .tables) (part 1536 256 k) (part 1280 256 v) (addresses-fit k v s f) (sizes-fit k v s f))
-      (length-take-le (s .possible) (part 1792 128 k) (possible-fit k v s f))
+      counts (fine s) (rows-length block (s .blocks) (part AT-BLOCKS BLOCKS k) (part AT-BLOCKS BLOCKS v) (starts-fit k v s f) (ends-fit k v s f)) ways-count
+      (length-take-le (s .references) (part AT-REFERENCES REFERENCES k) (references-fit k v s f))
+      (rows-length table (s .tables) (part AT-TABLES TABLES k) (part AT-SIZES TABLES v) (addresses-fit k v s f) (sizes-fit k v s f))
+      (length-take-le (s .possible) (part AT-POSSIBLE POSSIBLE k) (possible-fit k v s f))
 
   agree : Agree (fine s) (columns-of (view k v s)) (parts k v)
   unfolding view
   agree =
       record {
-        starts = fewer (s .blocks) _ _ (starts-are (s .blocks) (part 0 256 k) (part 0 256 v) (starts-fit k v s f) (ends-fit k v s f));
-        ends = fewer (s .blocks) _ _ (ends-are (s .blocks) (part 0 256 k) (part 0 256 v) (starts-fit k v s f) (ends-fit k v s f));
-        froms = fewer (s .ways) _ _ (froms-are (s .ways) (part 256 1024 k) (part 256 1024 v) (froms-fit k v s f) (tos-fit k v s f));
-        tos = fewer (s .ways) _ _ (tos-are (s .ways) (part 256 1024 k) (part 256 1024 v) (froms-fit k v s f) (tos-fit k v s f));
+        starts = fewer (s .blocks) _ _ (starts-are (s .blocks) (part AT-BLOCKS BLOCKS k) (part AT-BLOCKS BLOCKS v) (starts-fit k v s f) (ends-fit k v s f));
+        ends = fewer (s .blocks) _ _ (ends-are (s .blocks) (part AT-BLOCKS BLOCKS k) (part AT-BLOCKS BLOCKS v) (starts-fit k v s f) (ends-fit k v s f));
+        froms = fewer (s .ways) _ _ (froms-are (s .ways) (part AT-BRANCHES BRANCHES k) (part AT-BRANCHES BRANCHES v) (froms-fit k v s f) (tos-fit k v s f));
+        tos = fewer (s .ways) _ _ (tos-are (s .ways) (part AT-BRANCHES BRANCHES k) (part AT-BRANCHES BRANCHES v) (froms-fit k v s f) (tos-fit k v s f));
         references = fewer (s .references) _ _ refl;
-        addresses = fewer (s .tables) _ _ (addresses-are (s .tables) (part 1536 256 k) (part 1280 256 v) (addresses-fit k v s f) (sizes-fit k v s f));
-        sizes = fewer (s .tables) _ _ (sizes-are (s .tables) (part 1536 256 k) (part 1280 256 v) (addresses-fit k v s f) (sizes-fit k v s f));
+        addresses = fewer (s .tables) _ _ (addresses-are (s .tables) (part AT-TABLES TABLES k) (part AT-SIZES TABLES v) (addresses-fit k v s f) (sizes-fit k v s f));
+        sizes = fewer (s .tables) _ _ (sizes-are (s .tables) (part AT-TABLES TABLES k) (part AT-SIZES TABLES v) (addresses-fit k v s f) (sizes-fit k v s f));
         possible = fewer (s .possible) _ _ refl;
       }
 

@@ -12,7 +12,7 @@ use Rattle.rules.specs.Blocks.{Block}
 use Rattle.rules.specs.Slices.{Slices}
 use Rattle.rules.specs.Known.{Entry, entryOf, new-entry}
 use Rattle.rules.specs.Map.{Capacity, add-entry}
-use Rattle.known.specs.Table.{known-rows}
+use Rattle.known.specs.Table.{known-rows, KNOWN}
 use Rattle.entries.specs.Table.{entry-numbers, flat, odd, Told}
 use Rattle.entry_changes.specs.declared.Added.{Added}
 use Rattle.entry_changes.specs.declared.Span.{Span}
@@ -27,7 +27,7 @@ with-end end x = record { entry = x .entry; analyzed = x .analyzed; end = end; s
 
 -- the n rows of known are these
 pub record KnownAre (n : ℕ) (bs : List Block) (known : List ℕ) : Type 0 where
-  pub size : length known ≡ 2048
+  pub size : length known ≡ KNOWN
   pub rows : known-rows n known ≡ bs
 
 -- the entry at k is at its place

@@ -10,9 +10,9 @@ ghost use Rattle.rules.specs.Known.{Entry, new-entry};
 ghost use Rattle.rules.specs.OneFunction.{numbers};
 ghost use Rattle.lists.specs.View.{view, Fit};
 ghost use Rattle.rules.specs.Map as rules;
-ghost use Rattle.known.specs.Table.{known-rows};
+ghost use Rattle.known.specs.Table.{known-rows, ENTRIES, KNOWN};
 ghost use Rattle.runs.specs.Runs.{Fits, spliced};
-ghost use Rattle.entries.specs.Table.{flag, flags, row, Holds, Good, Told, capacity};
+ghost use Rattle.entries.specs.Table.{flag, flags, row, Holds, Good, Told, capacity, INFOS};
 ghost use Rattle.entry_changes.specs.Changed.{KnownAre, IsAdded, IsSpan, fitted, analyzed-entry, marked, end-set};
 
 // How many entries there are after a change, where the entry is, and the fault that stopped it; 0 for none.
@@ -24,29 +24,29 @@ pub struct Added {
 
 // How many entries there may be.
 fn most(room: usize) -> usize
-    ensures { λ r. ⌜ r ≡ min 1024 room ⌝ }
+    ensures { λ r. ⌜ r ≡ min ENTRIES room ⌝ }
 {
-    if room < 1024 {
+    if room < known::ENTRIES {
         return room;
     }
-    1024
+    known::ENTRIES
 }
 
 // An entry without an end, put in at i.
 fn insert_known(known: &mut [u64], n: usize, i: usize, k: u64)
-    requires { ⌜ (i ≤ n) × (n < 1024) × (length (now known) ≡ 2048) ⌝ }
+    requires { ⌜ (i ≤ n) × (n < ENTRIES) × (length (now known) ≡ KNOWN) ⌝ }
     ensures { λ _. ⌜ KnownAre (suc n) (insert-at i (block k 0) (known-rows n (now (known .entry)))) (now (known .exit)) ⌝ }
 {
     let a: usize = 0;
-    let b: usize = 1024;
-    let c: usize = 2048;
+    let b: usize = known::AT_ENDS;
+    let c: usize = known::KNOWN;
     ordered::insert_at(&mut known[a..b], n, i, k);
     ordered::insert_at(&mut known[b..c], n, i, 0);
 }
 
 // A row of which nothing is known, put in at i.
 fn insert_row(infos: &mut [u64], n: usize, i: usize)
-    requires { ⌜ (i ≤ n) × (n < 1024) × (length (now infos) ≡ 8192) ⌝ }
+    requires { ⌜ (i ≤ n) × (n < ENTRIES) × (length (now infos) ≡ INFOS) ⌝ }
     ensures { λ _. ⌜ now (infos .exit) ≡ spliced (now (infos .entry)) (n * 8) (i * 8) (i * 8) (replicate 8 0) ++ drop (i * 8 + 8 + (n * 8 - i * 8)) (now (infos .entry)) ⌝ }
 {
     let p = i * 8;
@@ -66,7 +66,7 @@ pub fn add_entry(
     ensures { λ r. ⌜ ((es : List Entry) → Holds n (now (known .entry)) (now (infos .entry)) (now (lists .entry)) es → IsAdded (rules.add-entry (capacity room (now (lists .entry))) k es) k (now (known .exit)) (now (infos .exit)) (now (lists .entry)) r) ⌝ }
 {
     let a: usize = 0;
-    let b: usize = 1024;
+    let b: usize = known::AT_ENDS;
     let f = ordered::find(&known[a..b], n, k);
     let at = f.at;
     if f.hit {
@@ -167,11 +167,11 @@ fn put_row(infos: &mut [u64], p: usize, s: lists::Small)
 
 // The end of entry i.
 fn put_end(known: &mut [u64], n: usize, i: usize, end: u64)
-    requires { ⌜ (i < n) × (n ≤ 1024) × (length (now known) ≡ 2048) ⌝ }
+    requires { ⌜ (i < n) × (n ≤ ENTRIES) × (length (now known) ≡ KNOWN) ⌝ }
     ensures { λ _. ⌜ KnownAre n (set (known-rows n (now (known .entry))) i (block (getD (known-rows n (now (known .entry))) i (block 0 0) .start) end)) (now (known .exit)) ⌝ }
 {
-    let b: usize = 1024;
-    let c: usize = 2048;
+    let b: usize = known::AT_ENDS;
+    let c: usize = known::KNOWN;
     ordered::replace_at(&mut known[b..c], n, i, end);
 }
 

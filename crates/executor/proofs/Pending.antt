@@ -14,6 +14,7 @@ use Rattle.lists.specs.declared.Small.{Small}
 use Rattle.lists.proofs.Parts.{Lent, over, lent, part-length, parts-same}
 use Rattle.executor.specs.Pending.{stack, pending, IsPushed, IsPopped}
 use Rattle.executor.proofs.Stack.{length-stack, stack-pop}
+use Rattle.lists.specs.Places.{PENDING, AT-PENDING, KEYS}
 
 length-insert : (a : ℕ) (l : List ℕ) → length (insert a l) ≡ suc (length l)
 length-insert a [] = refl
@@ -22,7 +23,7 @@ length-insert a (x ∷ l) = by-if (λ (r : List ℕ). length r ≡ suc (suc (len
 module _ (addr n : ℕ) (k : List ℕ) where
   grown : length (insert addr (pending k n)) ≡ suc n
   unfolding pending
-  grown = length-insert addr (stack (part 1920 256 k) n) ∙ ap suc (length-stack (part 1920 256 k) n)
+  grown = length-insert addr (stack (part AT-PENDING PENDING k) n) ∙ ap suc (length-stack (part AT-PENDING PENDING k) n)
 
   pub pushed-full : n ≡ 256 → IsPushed addr n k k (record { count = n; fault = 4 })
   unfolding limited
@@ -30,30 +31,30 @@ module _ (addr n : ℕ) (k : List ℕ) where
       let full : limited 256 (insert addr (pending k n)) ≡ fault 4 = if-false (lt-leb (length (insert addr (pending k n))) 256 (omega (arith, grown))) _ _ in
       record { told = rw full refl; lists = refl; size = refl }
 
-  pub pushed : (p : List ℕ) → length k ≡ 2176 → n ≤ 256 → (n ≡ 256 → ⊥) → (stack p (n + 1) ≡ insert addr (stack (part 1920 256 k) n)) × (length p ≡ length (part 1920 256 k)) → IsPushed addr n k (over 1920 256 k p) (record { count = n + 1; fault = 0 })
+  pub pushed : (p : List ℕ) → length k ≡ KEYS → n ≤ 256 → (n ≡ 256 → ⊥) → (stack p (n + 1) ≡ insert addr (stack (part AT-PENDING PENDING k) n)) × (length p ≡ length (part AT-PENDING PENDING k)) → IsPushed addr n k (over AT-PENDING PENDING k p) (record { count = n + 1; fault = 0 })
   unfolding limited pending part
   pushed p size h ne e =
-      let room : 1920 + 256 ≤ length k = omega arith in
-      let l : Lent 1920 256 k p (over 1920 256 k p) = lent 1920 256 k p room (e .1 ∙ part-length 1920 256 k room) in
+      let room : AT-PENDING + 256 ≤ length k = omega arith in
+      let l : Lent AT-PENDING PENDING k p (over AT-PENDING PENDING k p) = lent AT-PENDING PENDING k p room (e .1 ∙ part-length AT-PENDING PENDING k room) in
       let fits : limited 256 (insert addr (pending k n)) ≡ ok (insert addr (pending k n)) = if-true (le-leb (length (insert addr (pending k n))) 256 (omega (arith, grown))) _ _ in
       record {
         told = rw fits (ap (λ (q : List ℕ). stack q (n + 1)) (l .here) ∙ e .0, omega arith, refl);
-        lists = l .below 0 1920 (omega arith);
+        lists = l .below 0 AT-PENDING (omega arith);
         size = l .size;
       }
 
-pub popped : (n : ℕ) (k : List ℕ) → length k ≡ 2176 → 0 < n → n ≤ 256 → IsPopped n k (record { addr = getD k (1920 + (n - 1)) 0; count = n - 1 })
+pub popped : (n : ℕ) (k : List ℕ) → length k ≡ KEYS → 0 < n → n ≤ 256 → IsPopped n k (record { addr = getD k (AT-PENDING + (n - 1)) 0; count = n - 1 })
 unfolding pending part
 popped n k size some h =
-    let at : getD (part 1920 256 k) (n - 1) 0 ≡ getD k (1920 + (n - 1)) 0 = getD-take 256 (drop 1920 k) (n - 1) 0 (omega arith) ∙ getD-drop 1920 k (n - 1) 0 in
-    record { first = stack-pop (part 1920 256 k) n some ∙ ap (λ (x : ℕ). x ∷ stack (part 1920 256 k) (n - 1)) at; left = omega arith }
+    let at : getD (part AT-PENDING PENDING k) (n - 1) 0 ≡ getD k (AT-PENDING + (n - 1)) 0 = getD-take 256 (drop AT-PENDING k) (n - 1) 0 (omega arith) ∙ getD-drop AT-PENDING k (n - 1) 0 in
+    record { first = stack-pop (part AT-PENDING PENDING k) n some ∙ ap (λ (x : ℕ). x ∷ stack (part AT-PENDING PENDING k) (n - 1)) at; left = omega arith }
 
 -- a change of the lists leaves what is pending, and a push leaves the lists
-pub pending-same : (k k′ : List ℕ) (n : ℕ) → drop 1920 k′ ≡ drop 1920 k → pending k′ n ≡ pending k n
+pub pending-same : (k k′ : List ℕ) (n : ℕ) → drop AT-PENDING k′ ≡ drop AT-PENDING k → pending k′ n ≡ pending k n
 unfolding pending part
 pending-same k k′ n e = ap (λ (r : List ℕ). stack (take 256 r) n) e
 
-module _ (k k′ v : List ℕ) (s : Small) (e : take 1920 k′ ≡ take 1920 k) where
+module _ (k k′ v : List ℕ) (s : Small) (e : take AT-PENDING k′ ≡ take AT-PENDING k) where
   pub lists-same : view k′ v s ≡ view k v s
   unfolding view
   lists-same = ap (λ (p : Parts). lists-of p s) (parts-same k k′ v e)

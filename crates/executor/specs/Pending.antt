@@ -8,6 +8,7 @@ use Rattle.rules.specs.Step.{insert}
 use Rattle.lists.specs.View.{part}
 use Rattle.executor.specs.declared.Pushed.{Pushed}
 use Rattle.executor.specs.declared.Popped.{Popped}
+use Rattle.lists.specs.Places.{PENDING, AT-PENDING}
 
 -- the first n elements, the last first
 abbrev pub stack : List ℕ → ℕ → List ℕ
@@ -16,7 +17,7 @@ stack p (suc n) = getD p n 0 ∷ stack p n
 
 -- the n pending addresses, the highest first
 unfoldable pub pending : List ℕ → ℕ → List ℕ
-pending k n = stack (part 1920 256 k) n
+pending k n = stack (part AT-PENDING PENDING k) n
 
 -- the pending addresses are the answer, or its fault is told
 abbrev pub Told : Answer (List ℕ) → List ℕ → Pushed → Type 0
@@ -26,7 +27,7 @@ Told (fault n) k r = r .fault ≡ n
 -- addr is pending too, and the lists are as they were
 pub record IsPushed (addr n : ℕ) (k k′ : List ℕ) (r : Pushed) : Type 0 where
   pub told : Told (limited 256 (insert addr (pending k n))) k′ r
-  pub lists : take 1920 k′ ≡ take 1920 k
+  pub lists : take AT-PENDING k′ ≡ take AT-PENDING k
   pub size : length k′ ≡ length k
 
 -- the first of them, and how many are behind it

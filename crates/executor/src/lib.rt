@@ -5,23 +5,28 @@ ghost use Prim.Native.Nat.{_+_, _<_, _≤_};
 ghost use lib.ListN.{length};
 ghost use Rattle.rules.specs.Walk.{with-one};
 ghost use Rattle.rules.specs.Step.{insert};
-ghost use Rattle.executor.specs.Bits.{bit};
+ghost use Rattle.executor.specs.Bits.{bit, VISITED};
 ghost use Rattle.executor.specs.Pending.{stack, IsPushed, IsPopped};
+ghost use Rattle.lists.specs.Places.{KEYS};
+use lists::places;
+
+// A bit for each of 65,536 code words.
+pub const VISITED: usize = 2048;
 
 // One bit for each code word.
 pub struct Visited {
-    pub bits: [u32; 2048],
+    pub bits: [u32; VISITED],
 }
 
 // No word was visited.
 pub fn none_visited() -> Visited
-    ensures { λ r. ⌜ (bit (r .bits) ≡ λ i. false) × (length (r .bits) ≡ 2048) ⌝ }
+    ensures { λ r. ⌜ (bit (r .bits) ≡ λ i. false) × (length (r .bits) ≡ VISITED) ⌝ }
 {
-    Visited { bits: [0; 2048] }
+    Visited { bits: [0; VISITED] }
 }
 
 // Whether the code word i was visited.
-pub fn seen(v: &[u32; 2048], i: usize) -> bool
+pub fn seen(v: &[u32; VISITED], i: usize) -> bool
     requires { ⌜ i < 65536 ⌝ }
     ensures { λ r. ⌜ r ≡ bit (now (v .entry)) i ⌝ }
 {
@@ -30,9 +35,9 @@ pub fn seen(v: &[u32; 2048], i: usize) -> bool
 }
 
 // The code word i is visited.
-pub fn visit(v: &mut [u32; 2048], i: usize)
-    requires { ⌜ (i < 65536) × (length (now v) ≡ 2048) ⌝ }
-    ensures { λ _. ⌜ (bit (now (v .exit)) ≡ with-one (bit (now (v .entry))) i) × (length (now (v .exit)) ≡ 2048) ⌝ }
+pub fn visit(v: &mut [u32; VISITED], i: usize)
+    requires { ⌜ (i < 65536) × (length (now v) ≡ VISITED) ⌝ }
+    ensures { λ _. ⌜ (bit (now (v .exit)) ≡ with-one (bit (now (v .entry))) i) × (length (now (v .exit)) ≡ VISITED) ⌝ }
 {
     let k = i / 32;
     v[k] = v[k] | (1u32 << (i % 32) as u32);
@@ -59,14 +64,14 @@ pub struct Pushed {
 
 // Puts addr among the n pending addresses.
 pub fn push(k: &mut [u64], n: usize, addr: u64) -> Pushed
-    requires { ⌜ (length (now k) ≡ 2176) × (n ≤ 256) ⌝ }
+    requires { ⌜ (length (now k) ≡ KEYS) × (n ≤ 256) ⌝ }
     ensures { λ r. ⌜ IsPushed addr n (now (k .entry)) (now (k .exit)) r ⌝ }
 {
-    if n == 256 {
+    if n == places::PENDING {
         return Pushed { count: n, fault: 4 };
     }
-    let a: usize = 1920;
-    let b: usize = 2176;
+    let a: usize = places::AT_PENDING;
+    let b: usize = places::KEYS;
     insert(&mut k[a..b], n, addr);
     Pushed {
         count: n + 1,
@@ -82,12 +87,12 @@ pub struct Popped {
 
 // Takes the highest of the n pending addresses.
 pub fn pop(k: &[u64], n: usize) -> Popped
-    requires { ⌜ (length (now k) ≡ 2176) × ((0 < n) × (n ≤ 256)) ⌝ }
+    requires { ⌜ (length (now k) ≡ KEYS) × ((0 < n) × (n ≤ 256)) ⌝ }
     ensures { λ r. ⌜ IsPopped n (now (k .entry)) r ⌝ }
 {
     let left = n - 1;
     Popped {
-        addr: k[1920 + left],
+        addr: k[places::AT_PENDING + left],
         count: left,
     }
 }

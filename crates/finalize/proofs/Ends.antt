@@ -34,6 +34,7 @@ use Rattle.walk.specs.State.{faulting, Listed}
 use Rattle.walk.proofs.Answers.{listed, listed-ok, listed-fault, refit}
 use Rattle.prologues.proofs.Notes.{stops, goes}
 use Rattle.finalize.specs.Checked.{Checked}
+use Rattle.lists.specs.Places.{BRANCHES, AT-BRANCHES}
 
 -- ---- the two words
 
@@ -118,7 +119,7 @@ module _ (sec b : List ℕ) (c : Code) (k v : List ℕ) (s : Small) (end : ℕ) 
         let z : view k v s .conditional-blr ≡ false = unfold view in plain in
         or-and-false _ _ _ z (sym (is-b l e ch q) ∙ h)
 
-    pub two-ways : (key : ℕ) (r : Bool) → b₁ ≡ true → key ≡ last-start (view k v s .blocks) → ((im : Image) → r ≡ any (rules.branches-to im key) (ways-rows (s .ways) (part 256 1024 k) (part 256 1024 v))) → IsConditional r
+    pub two-ways : (key : ℕ) (r : Bool) → b₁ ≡ true → key ≡ last-start (view k v s .blocks) → ((im : Image) → r ≡ any (rules.branches-to im key) (ways-rows (s .ways) (part AT-BRANCHES BRANCHES k) (part AT-BRANCHES BRANCHES v))) → IsConditional r
     unfolding rules.is-conditional
     two-ways key r h is-key is-r l e ch q =
         let z : view k v s .conditional-blr ≡ false = unfold view in plain in

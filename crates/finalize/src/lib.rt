@@ -20,6 +20,8 @@ ghost use Rattle.lists.specs.Groups.{ways-rows};
 ghost use Rattle.walk.specs.State.{faulting, Listed};
 ghost use Rattle.finalize.specs.Checked.{Checked};
 ghost use Rattle.finalize.specs.Ways.{same-source};
+ghost use Rattle.lists.specs.Places.{AT-PENDING};
+use lists::places;
 
 fn with_fault(s: lists::Small, n: u32) -> lists::Small
     ensures { λ r. ⌜ r ≡ faulting s n ⌝ }
@@ -134,8 +136,8 @@ fn is_conditional(
     }
     if ends_in_call(sections, bytes, k, v, code, s, end) {
         let key = lists::last_start(k, v, s);
-        let a: usize = 256;
-        let b: usize = 1280;
+        let a: usize = places::AT_BRANCHES;
+        let b: usize = places::AT_REFERENCES;
         return branches_to(&k[a..b], &v[a..b], s.ways, key);
     }
     false
@@ -156,8 +158,8 @@ fn has_last(bytes: &[u8], code: obj::sections::Code, s: lists::Small, end: u64) 
 fn add_last(
     bytes: &[u8],
     known: &[u64],
-    k: &mut [u64; 2176],
-    v: &mut [u64; 1536],
+    k: &mut [u64; places::KEYS],
+    v: &mut [u64; places::VALUES],
     code: obj::sections::Code,
     n: usize,
     s: lists::Small,
@@ -165,7 +167,7 @@ fn add_last(
 ) -> lists::Small
     requires lent { ⌜ InBytes (now bytes) code × Kept n (now known) ⌝ }
     requires fit { ⌜ Fit (now k) (now v) s × (s .fault ≡ 0) ⌝ }
-    ensures { λ r. ⌜ (drop 1920 (now (k .exit)) ≡ drop 1920 (now (k .entry))) × ((l : Lent) → Checked (now (bytes .entry)) code l → (es : List Entry) → Knows n (now (known .entry)) es → end ≡ last-end (view (now (k .entry)) (now (v .entry)) s .blocks) → Listed (rules.add-last (image l) es (view (now (k .entry)) (now (v .entry)) s)) (now (k .exit)) (now (v .exit)) r) ⌝ }
+    ensures { λ r. ⌜ (drop AT-PENDING (now (k .exit)) ≡ drop AT-PENDING (now (k .entry))) × ((l : Lent) → Checked (now (bytes .entry)) code l → (es : List Entry) → Knows n (now (known .entry)) es → end ≡ last-end (view (now (k .entry)) (now (v .entry)) s .blocks) → Listed (rules.add-last (image l) es (view (now (k .entry)) (now (v .entry)) s)) (now (k .exit)) (now (v .exit)) r) ⌝ }
 {
     if has_last(bytes, code, s, end) {
         if known::has_entry(known, n, end) {
@@ -180,8 +182,8 @@ fn add_last(
 fn finalize_end(
     bytes: &[u8],
     known: &[u64],
-    k: &mut [u64; 2176],
-    v: &mut [u64; 1536],
+    k: &mut [u64; places::KEYS],
+    v: &mut [u64; places::VALUES],
     code: obj::sections::Code,
     n: usize,
     s: lists::Small,
@@ -189,7 +191,7 @@ fn finalize_end(
 ) -> lists::Small
     requires lent { ⌜ InBytes (now bytes) code × Kept n (now known) ⌝ }
     requires fit { ⌜ Fit (now k) (now v) s × (s .fault ≡ 0) ⌝ }
-    ensures { λ r. ⌜ (drop 1920 (now (k .exit)) ≡ drop 1920 (now (k .entry))) × ((l : Lent) → Checked (now (bytes .entry)) code l → (es : List Entry) → Knows n (now (known .entry)) es → end ≡ last-end (view (now (k .entry)) (now (v .entry)) s .blocks) → Listed (rules.finalize-end (image l) es (view (now (k .entry)) (now (v .entry)) s)) (now (k .exit)) (now (v .exit)) r) ⌝ }
+    ensures { λ r. ⌜ (drop AT-PENDING (now (k .exit)) ≡ drop AT-PENDING (now (k .entry))) × ((l : Lent) → Checked (now (bytes .entry)) code l → (es : List Entry) → Knows n (now (known .entry)) es → end ≡ last-end (view (now (k .entry)) (now (v .entry)) s .blocks) → Listed (rules.finalize-end (image l) es (view (now (k .entry)) (now (v .entry)) s)) (now (k .exit)) (now (v .exit)) r) ⌝ }
 {
     let r = add_last(bytes, known, k, v, code, n, s, end);
     if r.fault != 0 {
@@ -205,15 +207,15 @@ fn finalize_closed(
     sections: &[u32],
     bytes: &[u8],
     known: &[u64],
-    k: &mut [u64; 2176],
-    v: &mut [u64; 1536],
+    k: &mut [u64; places::KEYS],
+    v: &mut [u64; places::VALUES],
     code: obj::sections::Code,
     n: usize,
     s: lists::Small,
 ) -> lists::Small
     requires lent { ⌜ Few (now sections) × InBytes (now bytes) code × Kept n (now known) ⌝ }
     requires fit { ⌜ Fit (now k) (now v) s × (s .fault ≡ 0) ⌝ }
-    ensures { λ r. ⌜ (drop 1920 (now (k .exit)) ≡ drop 1920 (now (k .entry))) × ((l : Lent) → l .sections ≡ now (sections .entry) → Checked (now (bytes .entry)) code l → (es : List Entry) → Knows n (now (known .entry)) es → Listed (rules.finalize-closed (image l) es (view (now (k .entry)) (now (v .entry)) s)) (now (k .exit)) (now (v .exit)) r) ⌝ }
+    ensures { λ r. ⌜ (drop AT-PENDING (now (k .exit)) ≡ drop AT-PENDING (now (k .entry))) × ((l : Lent) → l .sections ≡ now (sections .entry) → Checked (now (bytes .entry)) code l → (es : List Entry) → Knows n (now (known .entry)) es → Listed (rules.finalize-closed (image l) es (view (now (k .entry)) (now (v .entry)) s)) (now (k .exit)) (now (v .exit)) r) ⌝ }
 {
     let end = lists::last_end(k, v, s);
     if end == 0 {
@@ -237,15 +239,15 @@ pub fn finalize(
     sections: &[u32],
     bytes: &[u8],
     known: &[u64],
-    k: &mut [u64; 2176],
-    v: &mut [u64; 1536],
+    k: &mut [u64; places::KEYS],
+    v: &mut [u64; places::VALUES],
     code: obj::sections::Code,
     n: usize,
     s: lists::Small,
 ) -> lists::Small
     requires lent { ⌜ Few (now sections) × InBytes (now bytes) code × Kept n (now known) ⌝ }
     requires fit { ⌜ Fit (now k) (now v) s × (s .fault ≡ 0) ⌝ }
-    ensures { λ r. ⌜ (drop 1920 (now (k .exit)) ≡ drop 1920 (now (k .entry))) × ((l : Lent) → l .sections ≡ now (sections .entry) → Checked (now (bytes .entry)) code l → (es : List Entry) → Knows n (now (known .entry)) es → Listed (rules.finalize (image l) es (view (now (k .entry)) (now (v .entry)) s)) (now (k .exit)) (now (v .exit)) r) ⌝ }
+    ensures { λ r. ⌜ (drop AT-PENDING (now (k .exit)) ≡ drop AT-PENDING (now (k .entry))) × ((l : Lent) → l .sections ≡ now (sections .entry) → Checked (now (bytes .entry)) code l → (es : List Entry) → Knows n (now (known .entry)) es → Listed (rules.finalize (image l) es (view (now (k .entry)) (now (v .entry)) s)) (now (k .exit)) (now (v .exit)) r) ⌝ }
 {
     if s.finalized {
         return with_fault(s, 17);

@@ -8,9 +8,19 @@ use Rattle.rules.specs.Blocks.{Block, block, startOf}
 use Rattle.rules.specs.Known.{Entry}
 use Rattle.blocks.specs.Table.{rows}
 
+-- how many functions there may be, where their ends begin, and how long the slice is
+abbrev pub ENTRIES : ℕ
+ENTRIES = 1024
+
+abbrev pub AT-ENDS : ℕ
+AT-ENDS = 1024
+
+abbrev pub KNOWN : ℕ
+KNOWN = 2048
+
 -- entries and ends, as the rows of a table of blocks
 abbrev pub known-rows : ℕ → List ℕ → List Block
-known-rows n known = rows n (take 1024 (drop 0 known)) (take 1024 (drop 1024 known))
+known-rows n known = rows n (take ENTRIES (drop 0 known)) (take ENTRIES (drop AT-ENDS known))
 
 -- what a walk asks of an entry
 abbrev pub as-block : Entry → Block
@@ -18,8 +28,8 @@ as-block x = block (x .entry) (x .end)
 
 -- the slice holds n entries, ascending
 pub record Kept (n : ℕ) (known : List ℕ) : Type 0 where
-  pub size : length known ≡ 2048
-  pub few : n ≤ 1024
+  pub size : length known ≡ KNOWN
+  pub few : n ≤ ENTRIES
   pub rising : Rising startOf (known-rows n known)
 
 -- they are these

@@ -6,14 +6,21 @@ ghost use Rattle.rules.specs.Ordered.{has};
 ghost use Rattle.rules.specs.Known as rules;
 ghost use Rattle.known.specs.Table.{Kept, Knows};
 
+// How many functions there may be, where their ends begin, behind the entries, and how long the slice is.
+pub const ENTRIES: usize = 1024;
+
+pub const AT_ENDS: usize = 1024;
+
+pub const KNOWN: usize = 2048;
+
 // Whether a function is known to begin at addr.
 pub fn has_entry(known: &[u64], n: usize, addr: u64) -> bool
     requires { ⌜ Kept n (now known) ⌝ }
     ensures { λ r. ⌜ ((es : List rules.Entry) → Knows n (now (known .entry)) es → r ≡ has rules.entryOf addr es) ⌝ }
 {
     let a: usize = 0;
-    let b: usize = 1024;
-    let c: usize = 2048;
+    let b: usize = AT_ENDS;
+    let c: usize = KNOWN;
     blocks::has_start(&known[a..b], &known[b..c], n, addr)
 }
 
@@ -26,8 +33,8 @@ pub fn covering(known: &[u64], n: usize, addr: u64) -> u64
         return addr;
     }
     let a: usize = 0;
-    let b: usize = 1024;
-    let c: usize = 2048;
+    let b: usize = AT_ENDS;
+    let c: usize = KNOWN;
     let f = blocks::lower(&known[a..b], &known[b..c], n, addr);
     if addr < f.end {
         return f.start;
@@ -41,6 +48,6 @@ pub fn any_between(known: &[u64], n: usize, low: u64, high: u64) -> bool
     ensures { λ r. ⌜ ((es : List rules.Entry) → Knows n (now (known .entry)) es → r ≡ rules.any-between low high es) ⌝ }
 {
     let a: usize = 0;
-    let b: usize = 1024;
+    let b: usize = AT_ENDS;
     lists::any_within(&known[a..b], n, low, high)
 }

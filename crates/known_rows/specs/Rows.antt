@@ -7,7 +7,7 @@ use lib.Dec.{eqb}
 use lib.ListN.{length}
 use Rattle.rules.specs.Blocks.{Block, block}
 use Rattle.rules.specs.OneFunction.{known-entry, are-known}
-use Rattle.known.specs.Table.{known-rows, Kept, Knows}
+use Rattle.known.specs.Table.{known-rows, Kept, Knows, KNOWN}
 
 -- the rows; one that is not whole is none
 abbrev pub known-blocks : List ℕ → List Block
@@ -27,12 +27,12 @@ every-other (a ∷ b ∷ l) = a ∷ every-other l
 
 -- the n rows stand in the slice, entries and ends
 pub record Filled (n : ℕ) (rows known : List ℕ) : Type 0 where
-  pub size : length known ≡ 2048
+  pub size : length known ≡ KNOWN
   pub same : known-rows n known ≡ known-blocks rows
 
 -- whether they are known functions, and where they are, the slice holds them
 pub record Taken (rows known : List ℕ) (r : Bool) : Type 0 where
   pub told : r ≡ are-known-list rows
-  pub size : length known ≡ 2048
+  pub size : length known ≡ KNOWN
   pub kept : r ≡ true → Kept (length rows / 2) known
   pub knows : r ≡ true → Knows (length rows / 2) known (map known-entry (known-blocks rows))

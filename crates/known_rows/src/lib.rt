@@ -5,6 +5,7 @@ ghost use lib.Dec.{ltb};
 ghost use lib.ListN.{length, take, drop};
 ghost use Rattle.rules.specs.Check.{chained};
 ghost use Rattle.known_rows.specs.Rows.{every-other, Filled, Taken};
+ghost use Rattle.known.specs.Table.{ENTRIES, KNOWN};
 
 // Every other number of the rows, from the first or the second on: n of them.
 fn copy_column(rows: &[u64], from: usize, n: usize, out: &mut [u64])
@@ -21,12 +22,12 @@ fn copy_column(rows: &[u64], from: usize, n: usize, out: &mut [u64])
 
 // The entries into the first half, the ends into the second.
 fn fill_known(rows: &[u64], n: usize, known: &mut [u64])
-    requires { ⌜ (length (now rows) ≡ n + n) × (n ≤ 1024) × (length (now known) ≡ 2048) ⌝ }
+    requires { ⌜ (length (now rows) ≡ n + n) × (n ≤ ENTRIES) × (length (now known) ≡ KNOWN) ⌝ }
     ensures { λ _. ⌜ Filled n (now (rows .entry)) (now (known .exit)) ⌝ }
 {
     let a: usize = 0;
-    let b: usize = 1024;
-    let c: usize = 2048;
+    let b: usize = known::AT_ENDS;
+    let c: usize = known::KNOWN;
     copy_column(rows, 0, n, &mut known[a..b]);
     copy_column(rows, 1, n, &mut known[b..c]);
 }
@@ -50,18 +51,18 @@ fn ascends(xs: &[u64], n: usize) -> bool
 
 // Whether the rows are known functions: whole, at most 1,024, ascending strictly by their entries; if so, they are taken.
 pub fn take_known(rows: &[u64], known: &mut [u64]) -> bool
-    requires { ⌜ length (now known) ≡ 2048 ⌝ }
+    requires { ⌜ length (now known) ≡ KNOWN ⌝ }
     ensures { λ r. ⌜ Taken (now (rows .entry)) (now (known .exit)) r ⌝ }
 {
     if 0 < rows.len() % 2 {
         return false;
     }
     let n = rows.len() / 2;
-    if 1024 < n {
+    if known::ENTRIES < n {
         return false;
     }
     fill_known(rows, n, known);
     let a: usize = 0;
-    let b: usize = 1024;
+    let b: usize = known::AT_ENDS;
     ascends(&known[a..b], n)
 }

@@ -12,6 +12,7 @@ use Rattle.lists.specs.Groups.{ways-rows}
 use Rattle.lists.specs.View.{Parts, parts-of, parts, lists-of, table, view, Held, Fit, Are}
 use Rattle.lists.specs.declared.Small.{Small}
 use Rattle.lists.proofs.Parts.{Lent, blocks-lent, ways-lent, references-lent, tables-lent, possible-lent}
+use Rattle.lists.specs.Places.{BLOCKS, BRANCHES, REFERENCES, TABLES, POSSIBLE, AT-BLOCKS, AT-BRANCHES, AT-REFERENCES, AT-TABLES, AT-POSSIBLE, AT-SIZES}
 
 -- the counts anew
 abbrev pub counted : Small → ℕ → ℕ → ℕ → ℕ → ℕ → Small
@@ -33,7 +34,7 @@ module _ (k v : List ℕ) (s : Small) (f : Fit k v s) (fine : s .fault ≡ 0) wh
   are k′ v′ p t e lk lv h z =
       record { fit = record { keys = lk ∙ f .keys; values = lv ∙ f .values; held = rw e h }; same = ap (λ (q : Parts). lists-of q t) e; fine = z }
 
-  pub blocks-changed : (ys zs k′ v′ : List ℕ) (n : ℕ) → Lent 0 256 k ys k′ → Lent 0 256 v zs v′ → n ≤ 256 → Rising startOf (rows n ys zs) → Are (with-blocks (view k v s) (rows n ys zs)) k′ v′ (counted s n (s .ways) (s .references) (s .tables) (s .possible))
+  pub blocks-changed : (ys zs k′ v′ : List ℕ) (n : ℕ) → Lent AT-BLOCKS BLOCKS k ys k′ → Lent AT-BLOCKS BLOCKS v zs v′ → n ≤ 256 → Rising startOf (rows n ys zs) → Are (with-blocks (view k v s) (rows n ys zs)) k′ v′ (counted s n (s .ways) (s .references) (s .tables) (s .possible))
   unfolding view P
   blocks-changed ys zs k′ v′ n lk lv h rise =
       are k′ v′ (parts-of ys zs (P .froms) (P .tos) (P .references) (P .addresses) (P .sizes) (P .possible)) (counted s n (s .ways) (s .references) (s .tables) (s .possible)) (blocks-lent lk lv) (lk .size) (lv .size) (record {
@@ -49,7 +50,7 @@ module _ (k v : List ℕ) (s : Small) (f : Fit k v s) (fine : s .fault ≡ 0) wh
         possible-rise = f .held .possible-rise;
       }) fine
 
-  pub ways-changed : (ys zs k′ v′ : List ℕ) (n : ℕ) → Lent 256 1024 k ys k′ → Lent 256 1024 v zs v′ → n ≤ 1024 → Rising fromOf (ways-rows n ys zs) → Are (with-ways (view k v s) (ways-rows n ys zs)) k′ v′ (counted s (s .blocks) n (s .references) (s .tables) (s .possible))
+  pub ways-changed : (ys zs k′ v′ : List ℕ) (n : ℕ) → Lent AT-BRANCHES BRANCHES k ys k′ → Lent AT-BRANCHES BRANCHES v zs v′ → n ≤ 1024 → Rising fromOf (ways-rows n ys zs) → Are (with-ways (view k v s) (ways-rows n ys zs)) k′ v′ (counted s (s .blocks) n (s .references) (s .tables) (s .possible))
   unfolding view P
   ways-changed ys zs k′ v′ n lk lv h rise =
       are k′ v′ (parts-of (P .starts) (P .ends) ys zs (P .references) (P .addresses) (P .sizes) (P .possible)) (counted s (s .blocks) n (s .references) (s .tables) (s .possible)) (ways-lent lk lv) (lk .size) (lv .size) (record {
@@ -65,7 +66,7 @@ module _ (k v : List ℕ) (s : Small) (f : Fit k v s) (fine : s .fault ≡ 0) wh
         possible-rise = f .held .possible-rise;
       }) fine
 
-  pub references-changed : (ys k′ : List ℕ) (n : ℕ) → Lent 1280 256 k ys k′ → n ≤ 256 → Rising self (take n ys) → Are (with-references (view k v s) (take n ys)) k′ v (counted s (s .blocks) (s .ways) n (s .tables) (s .possible))
+  pub references-changed : (ys k′ : List ℕ) (n : ℕ) → Lent AT-REFERENCES REFERENCES k ys k′ → n ≤ 256 → Rising self (take n ys) → Are (with-references (view k v s) (take n ys)) k′ v (counted s (s .blocks) (s .ways) n (s .tables) (s .possible))
   unfolding view P
   references-changed ys k′ n lk h rise =
       are k′ v (parts-of (P .starts) (P .ends) (P .froms) (P .tos) ys (P .addresses) (P .sizes) (P .possible)) (counted s (s .blocks) (s .ways) n (s .tables) (s .possible)) (references-lent v lk) (lk .size) refl (record {
@@ -81,7 +82,7 @@ module _ (k v : List ℕ) (s : Small) (f : Fit k v s) (fine : s .fault ≡ 0) wh
         possible-rise = f .held .possible-rise;
       }) fine
 
-  pub tables-changed : (ys zs k′ v′ : List ℕ) (n : ℕ) → Lent 1536 256 k ys k′ → Lent 1280 256 v zs v′ → n ≤ 256 → Rising addressOf (join table (take n ys) (take n zs)) → Are (with-tables (view k v s) (join table (take n ys) (take n zs))) k′ v′ (counted s (s .blocks) (s .ways) (s .references) n (s .possible))
+  pub tables-changed : (ys zs k′ v′ : List ℕ) (n : ℕ) → Lent AT-TABLES TABLES k ys k′ → Lent AT-SIZES TABLES v zs v′ → n ≤ 256 → Rising addressOf (join table (take n ys) (take n zs)) → Are (with-tables (view k v s) (join table (take n ys) (take n zs))) k′ v′ (counted s (s .blocks) (s .ways) (s .references) n (s .possible))
   unfolding view P
   tables-changed ys zs k′ v′ n lk lv h rise =
       are k′ v′ (parts-of (P .starts) (P .ends) (P .froms) (P .tos) (P .references) ys zs (P .possible)) (counted s (s .blocks) (s .ways) (s .references) n (s .possible)) (tables-lent lk lv) (lk .size) (lv .size) (record {
@@ -97,7 +98,7 @@ module _ (k v : List ℕ) (s : Small) (f : Fit k v s) (fine : s .fault ≡ 0) wh
         possible-rise = f .held .possible-rise;
       }) fine
 
-  pub possible-changed : (ys k′ : List ℕ) (n : ℕ) → Lent 1792 128 k ys k′ → n ≤ 128 → Rising self (take n ys) → Are (with-possible (view k v s) (take n ys)) k′ v (counted s (s .blocks) (s .ways) (s .references) (s .tables) n)
+  pub possible-changed : (ys k′ : List ℕ) (n : ℕ) → Lent AT-POSSIBLE POSSIBLE k ys k′ → n ≤ 128 → Rising self (take n ys) → Are (with-possible (view k v s) (take n ys)) k′ v (counted s (s .blocks) (s .ways) (s .references) (s .tables) n)
   unfolding view P
   possible-changed ys k′ n lk h rise =
       are k′ v (parts-of (P .starts) (P .ends) (P .froms) (P .tos) (P .references) (P .addresses) (P .sizes) ys) (counted s (s .blocks) (s .ways) (s .references) (s .tables) n) (possible-lent v lk) (lk .size) refl (record {

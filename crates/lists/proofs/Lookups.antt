@@ -21,6 +21,7 @@ use Rattle.lists.specs.View.{part, view, only, Fit, Are, Is}
 use Rattle.lists.specs.declared.Small.{Small}
 use Rattle.lists.proofs.Parts.{Lent, over, part-length}
 use Rattle.lists.proofs.Stores.{is-ok, lent-part, references-lie, blocks-table}
+use Rattle.lists.specs.Places.{BLOCKS, REFERENCES, AT-BLOCKS, AT-REFERENCES, AT-PENDING, KEYS, VALUES}
 
 -- ---- from low to high
 
@@ -64,11 +65,11 @@ open-ends [] (e ∷ es) h = absurd (omega arith)
 open-ends (s ∷ ss) [] h = absurd (omega arith)
 open-ends (s ∷ ss) (e ∷ es) h = rw (from-zero e) (ap (λ (b : Bool). if (leb 0 e && leb e 0) true b) (open-ends ss es (omega arith)))
 
-pub open-rows : (k v : List ℕ) (s : Small) (r : Bool) → Fit k v s → r ≡ any (λ e. leb 0 e && leb e 0) (take (s .blocks) (part 0 256 v)) → r ≡ any is-open (view k v s .blocks)
+pub open-rows : (k v : List ℕ) (s : Small) (r : Bool) → Fit k v s → r ≡ any (λ e. leb 0 e && leb e 0) (take (s .blocks) (part AT-BLOCKS BLOCKS v)) → r ≡ any is-open (view k v s .blocks)
 unfolding view
 open-rows k v s r f e =
-    let t : Table (s .blocks) (part 0 256 k) (part 0 256 v) = blocks-table k v s f in
-    e ∙ open-ends (take (s .blocks) (part 0 256 k)) (take (s .blocks) (part 0 256 v)) (same-size (s .blocks) (part 0 256 k) (part 0 256 v) (t .starts) (t .ends))
+    let t : Table (s .blocks) (part AT-BLOCKS BLOCKS k) (part AT-BLOCKS BLOCKS v) = blocks-table k v s f in
+    e ∙ open-ends (take (s .blocks) (part AT-BLOCKS BLOCKS k)) (take (s .blocks) (part AT-BLOCKS BLOCKS v)) (same-size (s .blocks) (part AT-BLOCKS BLOCKS k) (part AT-BLOCKS BLOCKS v) (t .starts) (t .ends))
 
 -- ---- the first that is key or more
 
@@ -90,7 +91,7 @@ module _ (xs : List ℕ) (n q i : ℕ) (room : n ≤ length xs) (at-is : i ≡ r
 
 -- ---- nothing but references
 
-pub only-are : (k v : List ℕ) (n : ℕ) → length k ≡ 2176 → length v ≡ 1536 → n ≤ 256 → Rising self (take n (part 1280 256 k)) → Are (with-only (take n (part 1280 256 k))) k v (only n)
+pub only-are : (k v : List ℕ) (n : ℕ) → length k ≡ KEYS → length v ≡ VALUES → n ≤ 256 → Rising self (take n (part AT-REFERENCES REFERENCES k)) → Are (with-only (take n (part AT-REFERENCES REFERENCES k))) k v (only n)
 unfolding view
 only-are k v n lk lv h rise =
     record {
@@ -114,20 +115,20 @@ only-are k v n lk lv h rise =
       fine = refl;
     }
 
-pub none-are : (k v : List ℕ) (r : Small) → length k ≡ 2176 → length v ≡ 1536 → r ≡ only 0 → Are (with-only []) k v r
+pub none-are : (k v : List ℕ) (r : Small) → length k ≡ KEYS → length v ≡ VALUES → r ≡ only 0 → Are (with-only []) k v r
 none-are k v r lk lv e = rw e (only-are k v 0 lk lv (omega arith) tt)
 
 front : (n : ℕ) (d l : List ℕ) → n ≤ length l → take n (paste d 0 l n) ≡ take n l
 front n d l h = ap (λ (i : ℕ). take i (paste d 0 l n)) (sym (zero-add n)) ∙ take-paste d 0 l n (omega arith) h
 
-pub copied-are : (k v : List ℕ) (s : Small) (keys values ys : List ℕ) (r : Small) → Fit k v s → length keys ≡ 2176 → length values ≡ 1536 → ys ≡ paste (part 1280 256 keys) 0 (part 1280 256 k) (s .references) → r ≡ only (s .references) → Is (ok (with-only (view k v s .references))) keys (over 1280 256 keys ys) values r
+pub copied-are : (k v : List ℕ) (s : Small) (keys values ys : List ℕ) (r : Small) → Fit k v s → length keys ≡ KEYS → length values ≡ VALUES → ys ≡ paste (part AT-REFERENCES REFERENCES keys) 0 (part AT-REFERENCES REFERENCES k) (s .references) → r ≡ only (s .references) → Is (ok (with-only (view k v s .references))) keys (over AT-REFERENCES REFERENCES keys ys) values r
 unfolding view
 copied-are k v s keys values ys r f lk lv e er =
-    let room : length (part 1280 256 keys) ≡ 256 = part-length 1280 256 keys (omega arith) in
-    let size : length ys ≡ length (part 1280 256 keys) = ap length e ∙ length-paste (part 1280 256 keys) 0 (part 1280 256 k) (s .references) (omega (arith, f .held .references-fit)) (references-lie k v s f) in
-    let l : Lent 1280 256 keys ys (over 1280 256 keys ys) = lent-part 1280 256 keys ys (omega arith) size in
-    let refs : take (s .references) (part 1280 256 (over 1280 256 keys ys)) ≡ take (s .references) (part 1280 256 k) =
-    ap (take (s .references)) (l .here ∙ e) ∙ front (s .references) (part 1280 256 keys) (part 1280 256 k) (references-lie k v s f)
+    let room : length (part AT-REFERENCES REFERENCES keys) ≡ 256 = part-length AT-REFERENCES REFERENCES keys (omega arith) in
+    let size : length ys ≡ length (part AT-REFERENCES REFERENCES keys) = ap length e ∙ length-paste (part AT-REFERENCES REFERENCES keys) 0 (part AT-REFERENCES REFERENCES k) (s .references) (omega (arith, f .held .references-fit)) (references-lie k v s f) in
+    let l : Lent AT-REFERENCES REFERENCES keys ys (over AT-REFERENCES REFERENCES keys ys) = lent-part AT-REFERENCES REFERENCES keys ys (omega arith) size in
+    let refs : take (s .references) (part AT-REFERENCES REFERENCES (over AT-REFERENCES REFERENCES keys ys)) ≡ take (s .references) (part AT-REFERENCES REFERENCES k) =
+    ap (take (s .references)) (l .here ∙ e) ∙ front (s .references) (part AT-REFERENCES REFERENCES keys) (part AT-REFERENCES REFERENCES k) (references-lie k v s f)
     in
-    rw er (is-ok (l .past 1920 (omega arith)) refl
-    (rw refs at (only-are (over 1280 256 keys ys) values (s .references) (l .size ∙ lk) lv (f .held .references-fit) (rw refs (f .held .references-rise)))))
+    rw er (is-ok (l .past AT-PENDING (omega arith)) refl
+    (rw refs at (only-are (over AT-REFERENCES REFERENCES keys ys) values (s .references) (l .size ∙ lk) lv (f .held .references-fit) (rw refs (f .held .references-rise)))))

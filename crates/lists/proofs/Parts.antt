@@ -6,6 +6,7 @@ use native.Mathlib.Omega.{arith}
 use lib.ListN.{length, take, drop, length-append, length-drop}
 use lib.Seq.{drop-drop, length-take-le, take-append-le, drop-append-le, take-take, take-at, drop-at}
 use Rattle.lists.specs.View.{part, parts-of, parts}
+use Rattle.lists.specs.Places.{BLOCKS, BRANCHES, REFERENCES, TABLES, POSSIBLE, AT-BLOCKS, AT-BRANCHES, AT-REFERENCES, AT-TABLES, AT-POSSIBLE, AT-PENDING, AT-SIZES}
 
 -- xs with ys in the place of the n elements from a on
 abbrev pub over : ℕ → ℕ → List ℕ → List ℕ → List ℕ
@@ -71,33 +72,33 @@ parts-are pa pb pc pd pe pf pg ph = cc
 
 -- which columns are anew, by the part that was lent of k, and of v
 module _ {k v k′ v′ ys zs : List ℕ} where
-  pub blocks-lent : Lent 0 256 k ys k′ → Lent 0 256 v zs v′ → parts k′ v′ ≡ parts-of ys zs (part 256 1024 k) (part 256 1024 v) (part 1280 256 k) (part 1536 256 k) (part 1280 256 v) (part 1792 128 k)
+  pub blocks-lent : Lent AT-BLOCKS BLOCKS k ys k′ → Lent AT-BLOCKS BLOCKS v zs v′ → parts k′ v′ ≡ parts-of ys zs (part AT-BRANCHES BRANCHES k) (part AT-BRANCHES BRANCHES v) (part AT-REFERENCES REFERENCES k) (part AT-TABLES TABLES k) (part AT-SIZES TABLES v) (part AT-POSSIBLE POSSIBLE k)
   blocks-lent l m =
-      parts-are (l .here) (m .here) (up l 256 1024 (omega arith)) (up m 256 1024 (omega arith)) (up l 1280 256 (omega arith)) (up l 1536 256 (omega arith)) (up m 1280 256 (omega arith)) (up l 1792 128 (omega arith))
+      parts-are (l .here) (m .here) (up l AT-BRANCHES BRANCHES (omega arith)) (up m AT-BRANCHES BRANCHES (omega arith)) (up l AT-REFERENCES REFERENCES (omega arith)) (up l AT-TABLES TABLES (omega arith)) (up m AT-REFERENCES REFERENCES (omega arith)) (up l AT-POSSIBLE POSSIBLE (omega arith))
 
-  pub ways-lent : Lent 256 1024 k ys k′ → Lent 256 1024 v zs v′ → parts k′ v′ ≡ parts-of (part 0 256 k) (part 0 256 v) ys zs (part 1280 256 k) (part 1536 256 k) (part 1280 256 v) (part 1792 128 k)
+  pub ways-lent : Lent AT-BRANCHES BRANCHES k ys k′ → Lent AT-BRANCHES BRANCHES v zs v′ → parts k′ v′ ≡ parts-of (part AT-BLOCKS BLOCKS k) (part AT-BLOCKS BLOCKS v) ys zs (part AT-REFERENCES REFERENCES k) (part AT-TABLES TABLES k) (part AT-SIZES TABLES v) (part AT-POSSIBLE POSSIBLE k)
   ways-lent l m =
-      parts-are (l .below 0 256 (omega arith)) (m .below 0 256 (omega arith)) (l .here) (m .here) (up l 1280 256 (omega arith)) (up l 1536 256 (omega arith)) (up m 1280 256 (omega arith)) (up l 1792 128 (omega arith))
+      parts-are (l .below AT-BLOCKS BLOCKS (omega arith)) (m .below AT-BLOCKS BLOCKS (omega arith)) (l .here) (m .here) (up l AT-REFERENCES REFERENCES (omega arith)) (up l AT-TABLES TABLES (omega arith)) (up m AT-REFERENCES REFERENCES (omega arith)) (up l AT-POSSIBLE POSSIBLE (omega arith))
 
-  pub tables-lent : Lent 1536 256 k ys k′ → Lent 1280 256 v zs v′ → parts k′ v′ ≡ parts-of (part 0 256 k) (part 0 256 v) (part 256 1024 k) (part 256 1024 v) (part 1280 256 k) ys zs (part 1792 128 k)
+  pub tables-lent : Lent AT-TABLES TABLES k ys k′ → Lent AT-SIZES TABLES v zs v′ → parts k′ v′ ≡ parts-of (part AT-BLOCKS BLOCKS k) (part AT-BLOCKS BLOCKS v) (part AT-BRANCHES BRANCHES k) (part AT-BRANCHES BRANCHES v) (part AT-REFERENCES REFERENCES k) ys zs (part AT-POSSIBLE POSSIBLE k)
   tables-lent l m =
-      parts-are (l .below 0 256 (omega arith)) (m .below 0 256 (omega arith)) (l .below 256 1024 (omega arith)) (m .below 256 1024 (omega arith)) (l .below 1280 256 (omega arith)) (l .here) (m .here) (up l 1792 128 (omega arith))
+      parts-are (l .below AT-BLOCKS BLOCKS (omega arith)) (m .below AT-BLOCKS BLOCKS (omega arith)) (l .below AT-BRANCHES BRANCHES (omega arith)) (m .below AT-BRANCHES BRANCHES (omega arith)) (l .below AT-REFERENCES REFERENCES (omega arith)) (l .here) (m .here) (up l AT-POSSIBLE POSSIBLE (omega arith))
 
 module _ {k k′ ys : List ℕ} (v : List ℕ) where
-  pub references-lent : Lent 1280 256 k ys k′ → parts k′ v ≡ parts-of (part 0 256 k) (part 0 256 v) (part 256 1024 k) (part 256 1024 v) ys (part 1536 256 k) (part 1280 256 v) (part 1792 128 k)
+  pub references-lent : Lent AT-REFERENCES REFERENCES k ys k′ → parts k′ v ≡ parts-of (part AT-BLOCKS BLOCKS k) (part AT-BLOCKS BLOCKS v) (part AT-BRANCHES BRANCHES k) (part AT-BRANCHES BRANCHES v) ys (part AT-TABLES TABLES k) (part AT-SIZES TABLES v) (part AT-POSSIBLE POSSIBLE k)
   references-lent l =
-      parts-are (l .below 0 256 (omega arith)) refl (l .below 256 1024 (omega arith)) refl (l .here) (up l 1536 256 (omega arith)) refl (up l 1792 128 (omega arith))
+      parts-are (l .below AT-BLOCKS BLOCKS (omega arith)) refl (l .below AT-BRANCHES BRANCHES (omega arith)) refl (l .here) (up l AT-TABLES TABLES (omega arith)) refl (up l AT-POSSIBLE POSSIBLE (omega arith))
 
-  pub possible-lent : Lent 1792 128 k ys k′ → parts k′ v ≡ parts-of (part 0 256 k) (part 0 256 v) (part 256 1024 k) (part 256 1024 v) (part 1280 256 k) (part 1536 256 k) (part 1280 256 v) ys
+  pub possible-lent : Lent AT-POSSIBLE POSSIBLE k ys k′ → parts k′ v ≡ parts-of (part AT-BLOCKS BLOCKS k) (part AT-BLOCKS BLOCKS v) (part AT-BRANCHES BRANCHES k) (part AT-BRANCHES BRANCHES v) (part AT-REFERENCES REFERENCES k) (part AT-TABLES TABLES k) (part AT-SIZES TABLES v) ys
   possible-lent l =
-      parts-are (l .below 0 256 (omega arith)) refl (l .below 256 1024 (omega arith)) refl (l .below 1280 256 (omega arith)) (l .below 1536 256 (omega arith)) refl (l .here)
+      parts-are (l .below AT-BLOCKS BLOCKS (omega arith)) refl (l .below AT-BRANCHES BRANCHES (omega arith)) refl (l .below AT-REFERENCES REFERENCES (omega arith)) (l .below AT-TABLES TABLES (omega arith)) refl (l .here)
 
 -- the columns lie below what is pending
-pub parts-same : (k k′ v : List ℕ) → take 1920 k′ ≡ take 1920 k → parts k′ v ≡ parts k v
-parts-same k k′ v e = parts-are (same 0 256 (omega arith)) refl (same 256 1024 (omega arith)) refl (same 1280 256 (omega arith)) (same 1536 256 (omega arith)) refl (same 1792 128 (omega arith))
+pub parts-same : (k k′ v : List ℕ) → take AT-PENDING k′ ≡ take AT-PENDING k → parts k′ v ≡ parts k v
+parts-same k k′ v e = parts-are (same AT-BLOCKS BLOCKS (omega arith)) refl (same AT-BRANCHES BRANCHES (omega arith)) refl (same AT-REFERENCES REFERENCES (omega arith)) (same AT-TABLES TABLES (omega arith)) refl (same AT-POSSIBLE POSSIBLE (omega arith))
   where
-    same : (c m : ℕ) → c + m ≤ 1920 → part c m k′ ≡ part c m k
-    same c m h = sym (take-drop m c 1920 k′ h) ∙ ap (part c m) e ∙ take-drop m c 1920 k h
+    same : (c m : ℕ) → c + m ≤ AT-PENDING → part c m k′ ≡ part c m k
+    same c m h = sym (take-drop m c AT-PENDING k′ h) ∙ ap (part c m) e ∙ take-drop m c AT-PENDING k h
 
 pub part-length : (a n : ℕ) (xs : List ℕ) → a + n ≤ length xs → length (part a n xs) ≡ n
 unfolding part

@@ -25,6 +25,7 @@ use Rattle.lists.specs.View.{part, view, Fit, Are, Is, IsMarked}
 use Rattle.lists.specs.declared.Small.{Small}
 use Rattle.lists.proofs.Parts.{Lent, over, lent, part-length}
 use Rattle.lists.proofs.Changes.{counted, faulted, blocks-changed, references-changed, possible-changed}
+use Rattle.lists.specs.Places.{BLOCKS, REFERENCES, POSSIBLE, AT-BLOCKS, AT-REFERENCES, AT-POSSIBLE, AT-PENDING}
 
 -- ---- a limited list
 
@@ -39,7 +40,7 @@ module _ {A : Type 0} (n : ℕ) (l : List A) (f : List A → Slices) where
 
 -- ---- the answer and what is pending
 
-module _ {a : Answer Slices} {k k′ v′ : List ℕ} (pending : drop 1920 k′ ≡ drop 1920 k) where
+module _ {a : Answer Slices} {k k′ v′ : List ℕ} (pending : drop AT-PENDING k′ ≡ drop AT-PENDING k) where
   pub is-over : (s : Small) → a ≡ fault 4 → Is a k k′ v′ (faulted s 4)
   is-over s e = record { told = rw e refl; pending = pending }
 
@@ -72,151 +73,151 @@ was-no false true e = (refl, cc)
 was-no false false e = (refl, refl)
 
 module _ (k v : List ℕ) (s : Small) (f : Fit k v s) where
-  starts-long : length (part 0 256 k) ≡ 256
-  starts-long = part-length 0 256 k (omega (arith, f .keys))
+  starts-long : length (part AT-BLOCKS BLOCKS k) ≡ 256
+  starts-long = part-length AT-BLOCKS BLOCKS k (omega (arith, f .keys))
 
-  ends-long : length (part 0 256 v) ≡ 256
-  ends-long = part-length 0 256 v (omega (arith, f .values))
+  ends-long : length (part AT-BLOCKS BLOCKS v) ≡ 256
+  ends-long = part-length AT-BLOCKS BLOCKS v (omega (arith, f .values))
 
-  pub blocks-table : Table (s .blocks) (part 0 256 k) (part 0 256 v)
+  pub blocks-table : Table (s .blocks) (part AT-BLOCKS BLOCKS k) (part AT-BLOCKS BLOCKS v)
   blocks-table =
-      let h : s .blocks ≤ 256 = f .held .blocks-fit in
+      let h : s .blocks ≤ BLOCKS = f .held .blocks-fit in
       record { starts = omega (arith, starts-long); ends = omega (arith, ends-long); rising = f .held .blocks-rise }
 
-  pub blocks-room : Room (s .blocks) 256 (part 0 256 k) (part 0 256 v)
+  pub blocks-room : Room (s .blocks) 256 (part AT-BLOCKS BLOCKS k) (part AT-BLOCKS BLOCKS v)
   blocks-room = record { count = f .held .blocks-fit; starts = omega (arith, starts-long); ends = omega (arith, ends-long) }
 
 module _ (k v : List ℕ) (s : Small) (f : Fit k v s) (fine : s .fault ≡ 0) where
-  module _ (n : ℕ) (bs : List Block) (ss es : List ℕ) (h : Holds n bs (part 0 256 k) (part 0 256 v) ss es) where
-    lent-starts : Lent 0 256 k ss (over 0 256 k ss)
-    lent-starts = lent-part 0 256 k ss (omega (arith, f .keys)) (h .size-starts)
+  module _ (n : ℕ) (bs : List Block) (ss es : List ℕ) (h : Holds n bs (part AT-BLOCKS BLOCKS k) (part AT-BLOCKS BLOCKS v) ss es) where
+    lent-starts : Lent AT-BLOCKS BLOCKS k ss (over AT-BLOCKS BLOCKS k ss)
+    lent-starts = lent-part AT-BLOCKS BLOCKS k ss (omega (arith, f .keys)) (h .size-starts)
 
-    lent-ends : Lent 0 256 v es (over 0 256 v es)
-    lent-ends = lent-part 0 256 v es (omega (arith, f .values)) (h .size-ends)
+    lent-ends : Lent AT-BLOCKS BLOCKS v es (over AT-BLOCKS BLOCKS v es)
+    lent-ends = lent-part AT-BLOCKS BLOCKS v es (omega (arith, f .values)) (h .size-ends)
 
-    blocks-pending : drop 1920 (over 0 256 k ss) ≡ drop 1920 k
-    blocks-pending = lent-starts .past 1920 (omega arith)
+    blocks-pending : drop AT-PENDING (over AT-BLOCKS BLOCKS k ss) ≡ drop AT-PENDING k
+    blocks-pending = lent-starts .past AT-PENDING (omega arith)
 
-    blocks-are : length bs ≤ 256 → Rising startOf bs → Are (with-blocks (view k v s) bs) (over 0 256 k ss) (over 0 256 v es) (counted s n (s .ways) (s .references) (s .tables) (s .possible))
+    blocks-are : length bs ≤ 256 → Rising startOf bs → Are (with-blocks (view k v s) bs) (over AT-BLOCKS BLOCKS k ss) (over AT-BLOCKS BLOCKS v es) (counted s n (s .ways) (s .references) (s .tables) (s .possible))
     blocks-are le rise =
-        rw (h .live) at (blocks-changed k v s f fine ss es (over 0 256 k ss) (over 0 256 v es) n lent-starts lent-ends (omega (arith, h .count)) (rw (h .live) rise))
+        rw (h .live) at (blocks-changed k v s f fine ss es (over AT-BLOCKS BLOCKS k ss) (over AT-BLOCKS BLOCKS v es) n lent-starts lent-ends (omega (arith, h .count)) (rw (h .live) rise))
 
-  module _ (b e : ℕ) (ss es : List ℕ) (r : Stored) (is : IsStored (s .blocks) 256 (block b e) (part 0 256 k) (part 0 256 v) ss es r) where
-    pub set-block-full : r .full ≡ true → Is (set-block b e (view k v s)) k (over 0 256 k ss) (over 0 256 v es) (faulted s 4)
+  module _ (b e : ℕ) (ss es : List ℕ) (r : Stored) (is : IsStored (s .blocks) 256 (block b e) (part AT-BLOCKS BLOCKS k) (part AT-BLOCKS BLOCKS v) ss es r) where
+    pub set-block-full : r .full ≡ true → Is (set-block b e (view k v s)) k (over AT-BLOCKS BLOCKS k ss) (over AT-BLOCKS BLOCKS v es) (faulted s 4)
     unfolding set-block view
     set-block-full full = is-over (blocks-pending _ _ ss es (is .table)) s (limit-over 256 _ _ (sym (is .full) ∙ full))
 
-    pub set-block-done : r .full ≡ false → Is (set-block b e (view k v s)) k (over 0 256 k ss) (over 0 256 v es) (counted s (r .count) (s .ways) (s .references) (s .tables) (s .possible))
+    pub set-block-done : r .full ≡ false → Is (set-block b e (view k v s)) k (over AT-BLOCKS BLOCKS k ss) (over AT-BLOCKS BLOCKS v es) (counted s (r .count) (s .ways) (s .references) (s .tables) (s .possible))
     unfolding set-block view
     set-block-done done =
-        let old : List Block = rows (s .blocks) (part 0 256 k) (part 0 256 v) in
-        let new : Holds (r .count) (put startOf (block b e) old) (part 0 256 k) (part 0 256 v) ss es = rw (if-false done old (put startOf (block b e) old)) at (is .table) in
+        let old : List Block = rows (s .blocks) (part AT-BLOCKS BLOCKS k) (part AT-BLOCKS BLOCKS v) in
+        let new : Holds (r .count) (put startOf (block b e) old) (part AT-BLOCKS BLOCKS k) (part AT-BLOCKS BLOCKS v) ss es = rw (if-false done old (put startOf (block b e) old)) at (is .table) in
         let fits : ltb 256 (length (put startOf (block b e) old)) ≡ false = sym (is .full) ∙ done in
         is-ok (blocks-pending _ _ ss es new) (limit-within 256 _ _ fits) (blocks-are _ _ ss es new (ltb-false _ _ fits) (put-rising startOf (block b e) old (f .held .blocks-rise)))
 
-  module _ (a : ℕ) (ss es : List ℕ) (r : Step) (is : IsAdded (s .blocks) 256 a (part 0 256 k) (part 0 256 v) ss es r) where
+  module _ (a : ℕ) (ss es : List ℕ) (r : Step) (is : IsAdded (s .blocks) 256 a (part AT-BLOCKS BLOCKS k) (part AT-BLOCKS BLOCKS v) ss es r) where
     bs : List Block
-    bs = rows (s .blocks) (part 0 256 k) (part 0 256 v)
+    bs = rows (s .blocks) (part AT-BLOCKS BLOCKS k) (part AT-BLOCKS BLOCKS v)
 
-    pub marked-full : r .added ≡ Full → IsMarked a k v s (over 0 256 k ss) (over 0 256 v es) (record { small = faulted s 4; new = false })
+    pub marked-full : r .added ≡ Full → IsMarked a k v s (over AT-BLOCKS BLOCKS k ss) (over AT-BLOCKS BLOCKS v es) (record { small = faulted s 4; new = false })
     unfolding add-block-start view bs
     marked-full e =
         let full : ltb 256 (length (mark a bs)) ≡ true = was-full _ _ (sym (is .answer) ∙ e) in
         let over-limit : add-block-start a (view k v s) ≡ fault 4 = limit-over 256 _ _ full in
         record { lists = is-over (blocks-pending _ _ ss es (is .table)) s over-limit; new = rw over-limit }
 
-    marked-done : (code : Bool) → ltb 256 (length (mark a bs)) ≡ false → is-new a bs ≡ code → IsMarked a k v s (over 0 256 k ss) (over 0 256 v es) (record { small = counted s (r .count) (s .ways) (s .references) (s .tables) (s .possible); new = code })
+    marked-done : (code : Bool) → ltb 256 (length (mark a bs)) ≡ false → is-new a bs ≡ code → IsMarked a k v s (over AT-BLOCKS BLOCKS k ss) (over AT-BLOCKS BLOCKS v es) (record { small = counted s (r .count) (s .ways) (s .references) (s .tables) (s .possible); new = code })
     unfolding add-block-start view bs
     marked-done code fits opened =
-        let new : Holds (r .count) (mark a bs) (part 0 256 k) (part 0 256 v) ss es = rw (if-false fits bs (mark a bs)) at (is .table) in
+        let new : Holds (r .count) (mark a bs) (part AT-BLOCKS BLOCKS k) (part AT-BLOCKS BLOCKS v) ss es = rw (if-false fits bs (mark a bs)) at (is .table) in
         let within : add-block-start a (view k v s) ≡ ok (with-blocks (view k v s) (mark a bs)) = limit-within 256 _ _ fits in
         record {
           lists = is-ok (blocks-pending _ _ ss es new) within (blocks-are _ _ ss es new (ltb-false _ _ fits) (mark-rising a bs (f .held .blocks-rise)));
           new = sym (rw within opened);
         }
 
-    pub marked-yes : r .added ≡ Yes → IsMarked a k v s (over 0 256 k ss) (over 0 256 v es) (record { small = counted s (r .count) (s .ways) (s .references) (s .tables) (s .possible); new = true })
+    pub marked-yes : r .added ≡ Yes → IsMarked a k v s (over AT-BLOCKS BLOCKS k ss) (over AT-BLOCKS BLOCKS v es) (record { small = counted s (r .count) (s .ways) (s .references) (s .tables) (s .possible); new = true })
     unfolding bs
     marked-yes e = marked-done true (was-yes _ _ (sym (is .answer) ∙ e) .0) (was-yes _ _ (sym (is .answer) ∙ e) .1)
 
-    pub marked-no : r .added ≡ No → IsMarked a k v s (over 0 256 k ss) (over 0 256 v es) (record { small = counted s (r .count) (s .ways) (s .references) (s .tables) (s .possible); new = false })
+    pub marked-no : r .added ≡ No → IsMarked a k v s (over AT-BLOCKS BLOCKS k ss) (over AT-BLOCKS BLOCKS v es) (record { small = counted s (r .count) (s .ways) (s .references) (s .tables) (s .possible); new = false })
     unfolding bs
     marked-no e = marked-done false (was-no _ _ (sym (is .answer) ∙ e) .0) (was-no _ _ (sym (is .answer) ∙ e) .1)
 
 -- ---- references
 
 module _ (k v : List ℕ) (s : Small) (f : Fit k v s) where
-  references-long : length (part 1280 256 k) ≡ 256
-  references-long = part-length 1280 256 k (omega (arith, f .keys))
+  references-long : length (part AT-REFERENCES REFERENCES k) ≡ 256
+  references-long = part-length AT-REFERENCES REFERENCES k (omega (arith, f .keys))
 
-  pub references-lie : s .references ≤ length (part 1280 256 k)
+  pub references-lie : s .references ≤ length (part AT-REFERENCES REFERENCES k)
   references-lie = omega (arith, references-long, f .held .references-fit)
 
-  pub references-room : (s .references ≤ 256) × (256 ≤ length (part 1280 256 k)) × Rising self (take (s .references) (part 1280 256 k))
+  pub references-room : (s .references ≤ REFERENCES) × (256 ≤ length (part AT-REFERENCES REFERENCES k)) × Rising self (take (s .references) (part AT-REFERENCES REFERENCES k))
   references-room = (f .held .references-fit, omega (arith, references-long), f .held .references-rise)
 
 module _ (k v : List ℕ) (s : Small) (f : Fit k v s) (fine : s .fault ≡ 0) where
-  module _ (a : ℕ) (rs : List ℕ) (r : Insertion) (is : IsInserted (part 1280 256 k) rs (s .references) 256 a r) where
-    lent-references : Lent 1280 256 k rs (over 1280 256 k rs)
-    lent-references = lent-part 1280 256 k rs (omega (arith, f .keys)) (is .set .size)
+  module _ (a : ℕ) (rs : List ℕ) (r : Insertion) (is : IsInserted (part AT-REFERENCES REFERENCES k) rs (s .references) 256 a r) where
+    lent-references : Lent AT-REFERENCES REFERENCES k rs (over AT-REFERENCES REFERENCES k rs)
+    lent-references = lent-part AT-REFERENCES REFERENCES k rs (omega (arith, f .keys)) (is .set .size)
 
-    pub reference-full : r .full ≡ true → Is (add-reference a (view k v s)) k (over 1280 256 k rs) v (faulted s 4)
+    pub reference-full : r .full ≡ true → Is (add-reference a (view k v s)) k (over AT-REFERENCES REFERENCES k rs) v (faulted s 4)
     unfolding add-reference view
-    reference-full full = is-over (lent-references .past 1920 (omega arith)) s (limit-over 256 _ _ (sym (is .full) ∙ full))
+    reference-full full = is-over (lent-references .past AT-PENDING (omega arith)) s (limit-over 256 _ _ (sym (is .full) ∙ full))
 
-    pub reference-done : r .full ≡ false → Is (add-reference a (view k v s)) k (over 1280 256 k rs) v (counted s (s .blocks) (s .ways) (r .count) (s .tables) (s .possible))
+    pub reference-done : r .full ≡ false → Is (add-reference a (view k v s)) k (over AT-REFERENCES REFERENCES k rs) v (counted s (s .blocks) (s .ways) (r .count) (s .tables) (s .possible))
     unfolding add-reference view
     reference-done done =
-        let old : List ℕ = take (s .references) (part 1280 256 k) in
+        let old : List ℕ = take (s .references) (part AT-REFERENCES REFERENCES k) in
         let fits : ltb 256 (length (put self a old)) ≡ false = sym (is .full) ∙ done in
         let few : length (put self a old) ≤ 256 = ltb-false _ _ fits in
-        let new : Changed (part 1280 256 k) rs (r .count) (put self a old) (drop (r .count) (part 1280 256 k)) = rw (if-false done old (put self a old)) at (is .set) in
-        is-ok (lent-references .past 1920 (omega arith)) (limit-within 256 _ _ fits)
-        (rw (new .live) at (references-changed k v s f fine rs (over 1280 256 k rs) (r .count) lent-references (omega (arith, new .count)) (rw (new .live) (put-rising self a old (f .held .references-rise)))))
+        let new : Changed (part AT-REFERENCES REFERENCES k) rs (r .count) (put self a old) (drop (r .count) (part AT-REFERENCES REFERENCES k)) = rw (if-false done old (put self a old)) at (is .set) in
+        is-ok (lent-references .past AT-PENDING (omega arith)) (limit-within 256 _ _ fits)
+        (rw (new .live) at (references-changed k v s f fine rs (over AT-REFERENCES REFERENCES k rs) (r .count) lent-references (omega (arith, new .count)) (rw (new .live) (put-rising self a old (f .held .references-rise)))))
 
 -- ---- possible blocks
 
 module _ (k v : List ℕ) (s : Small) (f : Fit k v s) where
-  possible-long : length (part 1792 128 k) ≡ 128
-  possible-long = part-length 1792 128 k (omega (arith, f .keys))
+  possible-long : length (part AT-POSSIBLE POSSIBLE k) ≡ 128
+  possible-long = part-length AT-POSSIBLE POSSIBLE k (omega (arith, f .keys))
 
-  pub possible-lie : s .possible ≤ length (part 1792 128 k)
+  pub possible-lie : s .possible ≤ length (part AT-POSSIBLE POSSIBLE k)
   possible-lie = omega (arith, possible-long, f .held .possible-fit)
 
-  pub possible-room : (s .possible ≤ 128) × (128 ≤ length (part 1792 128 k)) × Rising self (take (s .possible) (part 1792 128 k))
+  pub possible-room : (s .possible ≤ POSSIBLE) × (128 ≤ length (part AT-POSSIBLE POSSIBLE k)) × Rising self (take (s .possible) (part AT-POSSIBLE POSSIBLE k))
   possible-room = (f .held .possible-fit, omega (arith, possible-long), f .held .possible-rise)
 
 module _ (k v : List ℕ) (s : Small) (f : Fit k v s) (fine : s .fault ≡ 0) where
-  module _ (ps : List ℕ) (size : length ps ≡ length (part 1792 128 k)) where
-    lent-possible : Lent 1792 128 k ps (over 1792 128 k ps)
-    lent-possible = lent-part 1792 128 k ps (omega (arith, f .keys)) size
+  module _ (ps : List ℕ) (size : length ps ≡ length (part AT-POSSIBLE POSSIBLE k)) where
+    lent-possible : Lent AT-POSSIBLE POSSIBLE k ps (over AT-POSSIBLE POSSIBLE k ps)
+    lent-possible = lent-part AT-POSSIBLE POSSIBLE k ps (omega (arith, f .keys)) size
 
-    possible-pending : drop 1920 (over 1792 128 k ps) ≡ drop 1920 k
-    possible-pending = lent-possible .past 1920 (omega arith)
+    possible-pending : drop AT-PENDING (over AT-POSSIBLE POSSIBLE k ps) ≡ drop AT-PENDING k
+    possible-pending = lent-possible .past AT-PENDING (omega arith)
 
-    possible-are : (n : ℕ) (l : List ℕ) → take n ps ≡ l → n ≤ 128 → Rising self l → Are (with-possible (view k v s) l) (over 1792 128 k ps) v (counted s (s .blocks) (s .ways) (s .references) (s .tables) n)
-    possible-are n l e h rise = rw e at (possible-changed k v s f fine ps (over 1792 128 k ps) n lent-possible h (rw e rise))
+    possible-are : (n : ℕ) (l : List ℕ) → take n ps ≡ l → n ≤ 128 → Rising self l → Are (with-possible (view k v s) l) (over AT-POSSIBLE POSSIBLE k ps) v (counted s (s .blocks) (s .ways) (s .references) (s .tables) n)
+    possible-are n l e h rise = rw e at (possible-changed k v s f fine ps (over AT-POSSIBLE POSSIBLE k ps) n lent-possible h (rw e rise))
 
-  module _ (a : ℕ) (ps : List ℕ) (r : Insertion) (is : IsInserted (part 1792 128 k) ps (s .possible) 128 a r) where
-    pub possible-full : r .full ≡ true → Is (add-possible a (view k v s)) k (over 1792 128 k ps) v (faulted s 4)
+  module _ (a : ℕ) (ps : List ℕ) (r : Insertion) (is : IsInserted (part AT-POSSIBLE POSSIBLE k) ps (s .possible) 128 a r) where
+    pub possible-full : r .full ≡ true → Is (add-possible a (view k v s)) k (over AT-POSSIBLE POSSIBLE k ps) v (faulted s 4)
     unfolding add-possible view
     possible-full full = is-over (possible-pending ps (is .set .size)) s (limit-over 128 _ _ (sym (is .full) ∙ full))
 
-    pub possible-done : r .full ≡ false → Is (add-possible a (view k v s)) k (over 1792 128 k ps) v (counted s (s .blocks) (s .ways) (s .references) (s .tables) (r .count))
+    pub possible-done : r .full ≡ false → Is (add-possible a (view k v s)) k (over AT-POSSIBLE POSSIBLE k ps) v (counted s (s .blocks) (s .ways) (s .references) (s .tables) (r .count))
     unfolding add-possible view
     possible-done done =
-        let old : List ℕ = take (s .possible) (part 1792 128 k) in
+        let old : List ℕ = take (s .possible) (part AT-POSSIBLE POSSIBLE k) in
         let fits : ltb 128 (length (put self a old)) ≡ false = sym (is .full) ∙ done in
         let few : length (put self a old) ≤ 128 = ltb-false _ _ fits in
-        let new : Changed (part 1792 128 k) ps (r .count) (put self a old) (drop (r .count) (part 1792 128 k)) = rw (if-false done old (put self a old)) at (is .set) in
+        let new : Changed (part AT-POSSIBLE POSSIBLE k) ps (r .count) (put self a old) (drop (r .count) (part AT-POSSIBLE POSSIBLE k)) = rw (if-false done old (put self a old)) at (is .set) in
         is-ok (possible-pending ps (is .set .size)) (limit-within 128 _ _ fits)
         (possible-are ps (is .set .size) (r .count) _ (new .live) (omega (arith, new .count)) (put-rising self a old (f .held .possible-rise)))
 
-  pub possible-gone : (a : ℕ) (ps : List ℕ) (n : ℕ) → IsRemoved (part 1792 128 k) ps (s .possible) a n → Is (ok (discard-possible a (view k v s))) k (over 1792 128 k ps) v (counted s (s .blocks) (s .ways) (s .references) (s .tables) n)
+  pub possible-gone : (a : ℕ) (ps : List ℕ) (n : ℕ) → IsRemoved (part AT-POSSIBLE POSSIBLE k) ps (s .possible) a n → Is (ok (discard-possible a (view k v s))) k (over AT-POSSIBLE POSSIBLE k ps) v (counted s (s .blocks) (s .ways) (s .references) (s .tables) n)
   unfolding discard-possible view
   possible-gone a ps n is =
-      let old : List ℕ = take (s .possible) (part 1792 128 k) in
-      let long : length old ≡ s .possible = length-take-le (s .possible) (part 1792 128 k) (possible-lie k v s f) in
+      let old : List ℕ = take (s .possible) (part AT-POSSIBLE POSSIBLE k) in
+      let long : length old ≡ s .possible = length-take-le (s .possible) (part AT-POSSIBLE POSSIBLE k) (possible-lie k v s f) in
       let fewer : length (without self a old) ≤ length old = without-few a old in
       is-ok (possible-pending ps (is .size)) refl
       (possible-are ps (is .size) n _ (is .live) (omega (arith, is .count, f .held .possible-fit)) (without-rising self a old (f .held .possible-rise)))

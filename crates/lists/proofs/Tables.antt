@@ -21,6 +21,7 @@ use Rattle.lists.specs.declared.Small.{Small}
 use Rattle.lists.proofs.Parts.{Lent, over, part-length}
 use Rattle.lists.proofs.Changes.{counted, faulted, tables-changed}
 use Rattle.lists.proofs.Stores.{limit-over, limit-within, is-over, is-ok, lent-part}
+use Rattle.lists.specs.Places.{TABLES, AT-TABLES, AT-PENDING, AT-SIZES}
 
 abbrev as-table : Block → Table
 as-table b = table (b .start) (b .end)
@@ -52,36 +53,36 @@ block-rise (x ∷ y ∷ l) r = (r .0, block-rise (y ∷ l) (r .1))
 
 module _ (k v : List ℕ) (s : Small) (f : Fit k v s) (fine : s .fault ≡ 0) where
   old : List Block
-  old = rows (s .tables) (part 1536 256 k) (part 1280 256 v)
+  old = rows (s .tables) (part AT-TABLES TABLES k) (part AT-SIZES TABLES v)
 
-  old-rows : join table (take (s .tables) (part 1536 256 k)) (take (s .tables) (part 1280 256 v)) ≡ map as-table old
+  old-rows : join table (take (s .tables) (part AT-TABLES TABLES k)) (take (s .tables) (part AT-SIZES TABLES v)) ≡ map as-table old
   unfolding old
-  old-rows = table-rows (take (s .tables) (part 1536 256 k)) (take (s .tables) (part 1280 256 v))
+  old-rows = table-rows (take (s .tables) (part AT-TABLES TABLES k)) (take (s .tables) (part AT-SIZES TABLES v))
 
-  addresses-long : length (part 1536 256 k) ≡ 256
-  addresses-long = part-length 1536 256 k (omega (arith, f .keys))
+  addresses-long : length (part AT-TABLES TABLES k) ≡ 256
+  addresses-long = part-length AT-TABLES TABLES k (omega (arith, f .keys))
 
-  sizes-long : length (part 1280 256 v) ≡ 256
-  sizes-long = part-length 1280 256 v (omega (arith, f .values))
+  sizes-long : length (part AT-SIZES TABLES v) ≡ 256
+  sizes-long = part-length AT-SIZES TABLES v (omega (arith, f .values))
 
   old-rise : Rising startOf old
   old-rise = block-rise old (rw old-rows at (f .held .tables-rise))
 
-  pub tables-table : Table.Table (s .tables) (part 1536 256 k) (part 1280 256 v)
+  pub tables-table : Table.Table (s .tables) (part AT-TABLES TABLES k) (part AT-SIZES TABLES v)
   unfolding old
   tables-table =
-      let h : s .tables ≤ 256 = f .held .tables-fit in
+      let h : s .tables ≤ TABLES = f .held .tables-fit in
       record { starts = omega (arith, addresses-long); ends = omega (arith, sizes-long); rising = old-rise }
 
-  pub tables-room : Room (s .tables) 256 (part 1536 256 k) (part 1280 256 v)
+  pub tables-room : Room (s .tables) 256 (part AT-TABLES TABLES k) (part AT-SIZES TABLES v)
   tables-room = record { count = f .held .tables-fit; starts = omega (arith, addresses-long); ends = omega (arith, sizes-long) }
 
-  module _ (a n : ℕ) (ss es : List ℕ) (r : Stored) (is : IsStored (s .tables) 256 (block a n) (part 1536 256 k) (part 1280 256 v) ss es r) where
-    lent-addresses : Lent 1536 256 k ss (over 1536 256 k ss)
-    lent-addresses = lent-part 1536 256 k ss (omega (arith, f .keys)) (is .table .size-starts)
+  module _ (a n : ℕ) (ss es : List ℕ) (r : Stored) (is : IsStored (s .tables) 256 (block a n) (part AT-TABLES TABLES k) (part AT-SIZES TABLES v) ss es r) where
+    lent-addresses : Lent AT-TABLES TABLES k ss (over AT-TABLES TABLES k ss)
+    lent-addresses = lent-part AT-TABLES TABLES k ss (omega (arith, f .keys)) (is .table .size-starts)
 
-    lent-sizes : Lent 1280 256 v es (over 1280 256 v es)
-    lent-sizes = lent-part 1280 256 v es (omega (arith, f .values)) (is .table .size-ends)
+    lent-sizes : Lent AT-SIZES TABLES v es (over AT-SIZES TABLES v es)
+    lent-sizes = lent-part AT-SIZES TABLES v es (omega (arith, f .values)) (is .table .size-ends)
 
     -- the tables that rules puts the new one into
     new : put addressOf (table a n) (view k v s .tables) ≡ map as-table (put startOf (block a n) old)
@@ -95,16 +96,16 @@ module _ (k v : List ℕ) (s : Small) (f : Fit k v s) (fine : s .fault ≡ 0) wh
     unfolding old
     over-is b e = rw long (sym (is .full) ∙ e)
 
-    pub set-table-full : r .full ≡ true → Is (set-table a n (view k v s)) k (over 1536 256 k ss) (over 1280 256 v es) (faulted s 4)
+    pub set-table-full : r .full ≡ true → Is (set-table a n (view k v s)) k (over AT-TABLES TABLES k ss) (over AT-SIZES TABLES v es) (faulted s 4)
     unfolding set-table
-    set-table-full full = is-over (lent-addresses .past 1920 (omega arith)) s (limit-over 256 _ _ (over-is true full))
+    set-table-full full = is-over (lent-addresses .past AT-PENDING (omega arith)) s (limit-over 256 _ _ (over-is true full))
 
-    pub set-table-done : r .full ≡ false → Is (set-table a n (view k v s)) k (over 1536 256 k ss) (over 1280 256 v es) (counted s (s .blocks) (s .ways) (s .references) (r .count) (s .possible))
+    pub set-table-done : r .full ≡ false → Is (set-table a n (view k v s)) k (over AT-TABLES TABLES k ss) (over AT-SIZES TABLES v es) (counted s (s .blocks) (s .ways) (s .references) (r .count) (s .possible))
     unfolding set-table old
     set-table-done done =
-        let held : Holds (r .count) (put startOf (block a n) old) (part 1536 256 k) (part 1280 256 v) ss es = rw (if-false done old (put startOf (block a n) old)) at (is .table) in
+        let held : Holds (r .count) (put startOf (block a n) old) (part AT-TABLES TABLES k) (part AT-SIZES TABLES v) ss es = rw (if-false done old (put startOf (block a n) old)) at (is .table) in
         let few : length (put addressOf (table a n) (view k v s .tables)) ≤ 256 = ltb-false _ _ (over-is false done) in
         let stand : join table (take (r .count) ss) (take (r .count) es) ≡ put addressOf (table a n) (view k v s .tables) = table-rows (take (r .count) ss) (take (r .count) es) ∙ ap (map as-table) (held .live) ∙ sym new in
         let rise : Rising addressOf (put addressOf (table a n) (view k v s .tables)) = rw new (table-rise (put startOf (block a n) old) (put-rising startOf (block a n) old old-rise)) in
-        is-ok (lent-addresses .past 1920 (omega arith)) (limit-within 256 _ _ (over-is false done))
-        (rw stand at (tables-changed k v s f fine ss es (over 1536 256 k ss) (over 1280 256 v es) (r .count) lent-addresses lent-sizes (omega (arith, held .count, long)) (rw stand rise)))
+        is-ok (lent-addresses .past AT-PENDING (omega arith)) (limit-within 256 _ _ (over-is false done))
+        (rw stand at (tables-changed k v s f fine ss es (over AT-TABLES TABLES k ss) (over AT-SIZES TABLES v es) (r .count) lent-addresses lent-sizes (omega (arith, held .count, long)) (rw stand rise)))

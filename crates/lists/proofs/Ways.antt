@@ -24,6 +24,7 @@ use Rattle.lists.proofs.Parts.{Lent, over, part-length}
 use Rattle.lists.proofs.Changes.{counted, faulted, ways-changed}
 use Rattle.lists.proofs.Stores.{is-over, is-ok, lent-part}
 use Rattle.lists.proofs.Groups.{replaced, put-pairs, count-grouped, rank-next}
+use Rattle.lists.specs.Places.{BRANCHES, AT-BRANCHES, AT-PENDING}
 
 -- ---- places
 
@@ -214,31 +215,31 @@ module _ (l : List Ways) (f : List Ways → Slices) where
   ways-within h = rw (if-true (le-leb (count-ways l) 1024 (ltb-false 1024 (count-ways l) h)) (ok l) (fault 4))
 
 module _ (k v : List ℕ) (s : Small) (f : Fit k v s) (fine : s .fault ≡ 0) where
-  froms-long : length (part 256 1024 k) ≡ 1024
-  froms-long = part-length 256 1024 k (omega (arith, f .keys))
+  froms-long : length (part AT-BRANCHES BRANCHES k) ≡ 1024
+  froms-long = part-length AT-BRANCHES BRANCHES k (omega (arith, f .keys))
 
-  tos-long : length (part 256 1024 v) ≡ 1024
-  tos-long = part-length 256 1024 v (omega (arith, f .values))
+  tos-long : length (part AT-BRANCHES BRANCHES v) ≡ 1024
+  tos-long = part-length AT-BRANCHES BRANCHES v (omega (arith, f .values))
 
-  pub has-ways : (targets : List ℕ) (m : ℕ) → 0 < m → m ≤ length targets → HasWays (s .ways) 1024 m (part 256 1024 k) (part 256 1024 v) targets
+  pub has-ways : (targets : List ℕ) (m : ℕ) → 0 < m → m ≤ length targets → HasWays (s .ways) 1024 m (part AT-BRANCHES BRANCHES k) (part AT-BRANCHES BRANCHES v) targets
   has-ways targets m some given =
       record { count = f .held .ways-fit; froms = omega (arith, froms-long); tos = omega (arith, tos-long); some = some; given = given; rising = f .held .ways-rise }
 
-  module _ (key : ℕ) (new fs ts : List ℕ) (r : Insertion) (is : IsPut (s .ways) 1024 key new (part 256 1024 k) (part 256 1024 v) fs ts r) where
-    lent-froms : Lent 256 1024 k fs (over 256 1024 k fs)
-    lent-froms = lent-part 256 1024 k fs (omega (arith, f .keys)) (is .froms)
+  module _ (key : ℕ) (new fs ts : List ℕ) (r : Insertion) (is : IsPut (s .ways) 1024 key new (part AT-BRANCHES BRANCHES k) (part AT-BRANCHES BRANCHES v) fs ts r) where
+    lent-froms : Lent AT-BRANCHES BRANCHES k fs (over AT-BRANCHES BRANCHES k fs)
+    lent-froms = lent-part AT-BRANCHES BRANCHES k fs (omega (arith, f .keys)) (is .froms)
 
-    lent-tos : Lent 256 1024 v ts (over 256 1024 v ts)
-    lent-tos = lent-part 256 1024 v ts (omega (arith, f .values)) (is .tos)
+    lent-tos : Lent AT-BRANCHES BRANCHES v ts (over AT-BRANCHES BRANCHES v ts)
+    lent-tos = lent-part AT-BRANCHES BRANCHES v ts (omega (arith, f .values)) (is .tos)
 
-    pub set-ways-full : r .full ≡ true → Is (set-ways key new (view k v s)) k (over 256 1024 k fs) (over 256 1024 v ts) (faulted s 4)
+    pub set-ways-full : r .full ≡ true → Is (set-ways key new (view k v s)) k (over AT-BRANCHES BRANCHES k fs) (over AT-BRANCHES BRANCHES v ts) (faulted s 4)
     unfolding set-ways view
-    set-ways-full full = is-over (lent-froms .past 1920 (omega arith)) s (ways-over (put fromOf (ways-of key new) (ways-rows (s .ways) (part 256 1024 k) (part 256 1024 v))) (with-ways (view k v s)) (sym (is .full) ∙ full))
+    set-ways-full full = is-over (lent-froms .past AT-PENDING (omega arith)) s (ways-over (put fromOf (ways-of key new) (ways-rows (s .ways) (part AT-BRANCHES BRANCHES k) (part AT-BRANCHES BRANCHES v))) (with-ways (view k v s)) (sym (is .full) ∙ full))
 
-    pub set-ways-done : r .full ≡ false → Is (set-ways key new (view k v s)) k (over 256 1024 k fs) (over 256 1024 v ts) (counted s (s .blocks) (r .count) (s .references) (s .tables) (s .possible))
+    pub set-ways-done : r .full ≡ false → Is (set-ways key new (view k v s)) k (over AT-BRANCHES BRANCHES k fs) (over AT-BRANCHES BRANCHES v ts) (counted s (s .blocks) (r .count) (s .references) (s .tables) (s .possible))
     unfolding set-ways view
     set-ways-done done =
-        let old : List Ways = ways-rows (s .ways) (part 256 1024 k) (part 256 1024 v) in
+        let old : List Ways = ways-rows (s .ways) (part AT-BRANCHES BRANCHES k) (part AT-BRANCHES BRANCHES v) in
         let rows : ways-rows (r .count) fs ts ≡ put fromOf (ways-of key new) old = is .rows ∙ if-false done old (put fromOf (ways-of key new) old) in
-        is-ok (lent-froms .past 1920 (omega arith)) (ways-within (put fromOf (ways-of key new) old) (with-ways (view k v s)) (sym (is .full) ∙ done))
-        (rw rows at (ways-changed k v s f fine fs ts (over 256 1024 k fs) (over 256 1024 v ts) (r .count) lent-froms lent-tos (is .fits) (rw rows (put-rising fromOf (ways-of key new) old (f .held .ways-rise)))))
+        is-ok (lent-froms .past AT-PENDING (omega arith)) (ways-within (put fromOf (ways-of key new) old) (with-ways (view k v s)) (sym (is .full) ∙ done))
+        (rw rows at (ways-changed k v s f fine fs ts (over AT-BRANCHES BRANCHES k fs) (over AT-BRANCHES BRANCHES v ts) (r .count) lent-froms lent-tos (is .fits) (rw rows (put-rising fromOf (ways-of key new) old (f .held .ways-rise)))))

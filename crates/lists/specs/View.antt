@@ -13,6 +13,7 @@ use Rattle.blocks.specs.Table.{rows}
 use Rattle.lists.specs.Groups.{ways-rows}
 use Rattle.lists.specs.declared.Small.{Small}
 use Rattle.lists.specs.declared.Marked.{Marked}
+use Rattle.lists.specs.Places.{BLOCKS, BRANCHES, REFERENCES, TABLES, POSSIBLE, AT-BLOCKS, AT-BRANCHES, AT-REFERENCES, AT-TABLES, AT-POSSIBLE, AT-PENDING, AT-SIZES, KEYS, VALUES}
 
 -- the n elements from a on
 unfoldable pub part : ℕ → ℕ → List ℕ → List ℕ
@@ -35,8 +36,8 @@ parts-of a b c d e f g h = record { starts = a; ends = b; froms = c; tos = d; re
 -- where each column stands
 abbrev pub parts : List ℕ → List ℕ → Parts
 parts k v =
-    parts-of (part 0 256 k) (part 0 256 v) (part 256 1024 k) (part 256 1024 v) (part 1280 256 k) (part 1536 256 k)
-    (part 1280 256 v) (part 1792 128 k)
+    parts-of (part AT-BLOCKS BLOCKS k) (part AT-BLOCKS BLOCKS v) (part AT-BRANCHES BRANCHES k) (part AT-BRANCHES BRANCHES v) (part AT-REFERENCES REFERENCES k) (part AT-TABLES TABLES k)
+    (part AT-SIZES TABLES v) (part AT-POSSIBLE POSSIBLE k)
 
 abbrev pub table : ℕ → ℕ → Table
 table a n = record { address = a; size = n }
@@ -74,11 +75,11 @@ only n =
 
 -- each count is within its column, and each table ascends
 pub record Held (p : Parts) (s : Small) : Type 0 where
-  pub blocks-fit : s .blocks ≤ 256
-  pub ways-fit : s .ways ≤ 1024
-  pub references-fit : s .references ≤ 256
-  pub tables-fit : s .tables ≤ 256
-  pub possible-fit : s .possible ≤ 128
+  pub blocks-fit : s .blocks ≤ BLOCKS
+  pub ways-fit : s .ways ≤ BRANCHES
+  pub references-fit : s .references ≤ REFERENCES
+  pub tables-fit : s .tables ≤ TABLES
+  pub possible-fit : s .possible ≤ POSSIBLE
   pub blocks-rise : Rising startOf (blocks-in p s)
   pub ways-rise : Rising fromOf (ways-in p s)
   pub references-rise : Rising self (references-in p s)
@@ -87,8 +88,8 @@ pub record Held (p : Parts) (s : Small) : Type 0 where
 
 -- both slices have their lengths, and hold the tables
 pub record Fit (k v : List ℕ) (s : Small) : Type 0 where
-  pub keys : length k ≡ 2176
-  pub values : length v ≡ 1536
+  pub keys : length k ≡ KEYS
+  pub values : length v ≡ VALUES
   pub held : Held (parts k v) s
 
 -- the lists are these, and there is no fault
@@ -105,7 +106,7 @@ Told (fault n) k v s = s .fault ≡ n
 -- k′ and v′ hold the answer, and what is pending is as it was in k
 pub record Is (a : Answer Slices) (k k′ v′ : List ℕ) (s : Small) : Type 0 where
   pub told : Told a k′ v′ s
-  pub pending : drop 1920 k′ ≡ drop 1920 k
+  pub pending : drop AT-PENDING k′ ≡ drop AT-PENDING k
 
 -- what holds of the lists, and false where there is a fault
 abbrev pub unless-fault : Answer Slices → Bool → Bool

@@ -11,6 +11,9 @@ ghost use Rattle.rules.specs.Choice.{ok, any};
 ghost use Rattle.rules.specs.Slices.{set-block, set-ways, add-reference, set-table, add-possible, discard-possible, with-only};
 ghost use Rattle.lists.specs.Groups.{HasWays, IsPut};
 ghost use Rattle.lists.specs.View.{view, only, Fit, Are, Is, IsMarked};
+ghost use Rattle.lists.specs.Places.{KEYS, VALUES};
+
+pub mod places;
 
 // How many elements each table has, and what is no table. The fault is 0 while there is none.
 pub struct Small {
@@ -39,9 +42,16 @@ pub fn set_block(k: &mut [u64], v: &mut [u64], s: Small, start: u64, end: u64) -
     requires { ⌜ Fit (now k) (now v) s × (s .fault ≡ 0) ⌝ }
     ensures { λ r. ⌜ Is (set-block start end (view (now (k .entry)) (now (v .entry)) s)) (now (k .entry)) (now (k .exit)) (now (v .exit)) r ⌝ }
 {
-    let a: usize = 0;
-    let b: usize = 256;
-    let r = blocks::set_end(&mut k[a..b], &mut v[a..b], s.blocks, 256, start, end);
+    let a: usize = places::AT_BLOCKS;
+    let b: usize = places::AT_BRANCHES;
+    let r = blocks::set_end(
+        &mut k[a..b],
+        &mut v[a..b],
+        s.blocks,
+        places::BLOCKS,
+        start,
+        end,
+    );
     if r.full {
         let mut t = s;
         t.fault = 4;
@@ -57,9 +67,9 @@ pub fn add_block_start(k: &mut [u64], v: &mut [u64], s: Small, addr: u64) -> Mar
     requires { ⌜ Fit (now k) (now v) s × (s .fault ≡ 0) ⌝ }
     ensures { λ r. ⌜ IsMarked addr (now (k .entry)) (now (v .entry)) s (now (k .exit)) (now (v .exit)) r ⌝ }
 {
-    let a: usize = 0;
-    let b: usize = 256;
-    let r = blocks::add_block_start(&mut k[a..b], &mut v[a..b], s.blocks, 256, addr);
+    let a: usize = places::AT_BLOCKS;
+    let b: usize = places::AT_BRANCHES;
+    let r = blocks::add_block_start(&mut k[a..b], &mut v[a..b], s.blocks, places::BLOCKS, addr);
     let added = r.added;
     let mut t = s;
     match added {
@@ -153,9 +163,17 @@ pub fn set_ways(
     requires some { ⌜ (0 < m) × (m ≤ length (now targets)) ⌝ }
     ensures { λ r. ⌜ Is (set-ways from (take m (now (targets .entry))) (view (now (k .entry)) (now (v .entry)) s)) (now (k .entry)) (now (k .exit)) (now (v .exit)) r ⌝ }
 {
-    let a: usize = 256;
-    let b: usize = 1280;
-    let r = put_ways(&mut k[a..b], &mut v[a..b], s.ways, 1024, from, targets, m);
+    let a: usize = places::AT_BRANCHES;
+    let b: usize = places::AT_REFERENCES;
+    let r = put_ways(
+        &mut k[a..b],
+        &mut v[a..b],
+        s.ways,
+        places::BRANCHES,
+        from,
+        targets,
+        m,
+    );
     if r.full {
         let mut t = s;
         t.fault = 4;
@@ -171,9 +189,9 @@ pub fn add_reference(k: &mut [u64], v: &mut [u64], s: Small, addr: u64) -> Small
     requires { ⌜ Fit (now k) (now v) s × (s .fault ≡ 0) ⌝ }
     ensures { λ r. ⌜ Is (add-reference addr (view (now (k .entry)) (now (v .entry)) s)) (now (k .entry)) (now (k .exit)) (now (v .exit)) r ⌝ }
 {
-    let a: usize = 1280;
-    let b: usize = 1536;
-    let r = ordered::insert(&mut k[a..b], s.references, 256, addr);
+    let a: usize = places::AT_REFERENCES;
+    let b: usize = places::AT_TABLES;
+    let r = ordered::insert(&mut k[a..b], s.references, places::REFERENCES, addr);
     if r.full {
         let mut t = s;
         t.fault = 4;
@@ -189,11 +207,18 @@ pub fn set_table(k: &mut [u64], v: &mut [u64], s: Small, addr: u64, size: u64) -
     requires { ⌜ Fit (now k) (now v) s × (s .fault ≡ 0) ⌝ }
     ensures { λ r. ⌜ Is (set-table addr size (view (now (k .entry)) (now (v .entry)) s)) (now (k .entry)) (now (k .exit)) (now (v .exit)) r ⌝ }
 {
-    let a: usize = 1536;
-    let b: usize = 1792;
-    let c: usize = 1280;
-    let d: usize = 1536;
-    let r = blocks::set_end(&mut k[a..b], &mut v[c..d], s.tables, 256, addr, size);
+    let a: usize = places::AT_TABLES;
+    let b: usize = places::AT_POSSIBLE;
+    let c: usize = places::AT_SIZES;
+    let d: usize = places::VALUES;
+    let r = blocks::set_end(
+        &mut k[a..b],
+        &mut v[c..d],
+        s.tables,
+        places::TABLES,
+        addr,
+        size,
+    );
     if r.full {
         let mut t = s;
         t.fault = 4;
@@ -209,9 +234,9 @@ pub fn add_possible(k: &mut [u64], v: &mut [u64], s: Small, addr: u64) -> Small
     requires { ⌜ Fit (now k) (now v) s × (s .fault ≡ 0) ⌝ }
     ensures { λ r. ⌜ Is (add-possible addr (view (now (k .entry)) (now (v .entry)) s)) (now (k .entry)) (now (k .exit)) (now (v .exit)) r ⌝ }
 {
-    let a: usize = 1792;
-    let b: usize = 1920;
-    let r = ordered::insert(&mut k[a..b], s.possible, 128, addr);
+    let a: usize = places::AT_POSSIBLE;
+    let b: usize = places::AT_PENDING;
+    let r = ordered::insert(&mut k[a..b], s.possible, places::POSSIBLE, addr);
     if r.full {
         let mut t = s;
         t.fault = 4;
@@ -227,8 +252,8 @@ pub fn discard_possible(k: &mut [u64], v: &mut [u64], s: Small, addr: u64) -> Sm
     requires { ⌜ Fit (now k) (now v) s × (s .fault ≡ 0) ⌝ }
     ensures { λ r. ⌜ Is (ok (discard-possible addr (view (now (k .entry)) (now (v .entry)) s))) (now (k .entry)) (now (k .exit)) (now (v .exit)) r ⌝ }
 {
-    let a: usize = 1792;
-    let b: usize = 1920;
+    let a: usize = places::AT_POSSIBLE;
+    let b: usize = places::AT_PENDING;
     let n = ordered::remove(&mut k[a..b], s.possible, addr);
     let mut t = s;
     t.possible = n;
@@ -240,8 +265,8 @@ pub fn has_start(k: &[u64], v: &[u64], s: Small, addr: u64) -> bool
     requires { ⌜ Fit (now k) (now v) s ⌝ }
     ensures { λ r. ⌜ r ≡ has startOf addr (view (now (k .entry)) (now (v .entry)) s .blocks) ⌝ }
 {
-    let a: usize = 0;
-    let b: usize = 256;
+    let a: usize = places::AT_BLOCKS;
+    let b: usize = places::AT_BRANCHES;
     blocks::has_start(&k[a..b], &v[a..b], s.blocks, addr)
 }
 
@@ -250,8 +275,8 @@ pub fn first_start(k: &[u64], v: &[u64], s: Small) -> u64
     requires { ⌜ Fit (now k) (now v) s ⌝ }
     ensures { λ r. ⌜ r ≡ first-start (view (now (k .entry)) (now (v .entry)) s .blocks) ⌝ }
 {
-    let a: usize = 0;
-    let b: usize = 256;
+    let a: usize = places::AT_BLOCKS;
+    let b: usize = places::AT_BRANCHES;
     blocks::start(&k[a..b], &v[a..b], s.blocks)
 }
 
@@ -260,8 +285,8 @@ pub fn last_start(k: &[u64], v: &[u64], s: Small) -> u64
     requires { ⌜ Fit (now k) (now v) s ⌝ }
     ensures { λ r. ⌜ r ≡ last-start (view (now (k .entry)) (now (v .entry)) s .blocks) ⌝ }
 {
-    let a: usize = 0;
-    let b: usize = 256;
+    let a: usize = places::AT_BLOCKS;
+    let b: usize = places::AT_BRANCHES;
     blocks::last_start(&k[a..b], &v[a..b], s.blocks)
 }
 
@@ -270,8 +295,8 @@ pub fn last_end(k: &[u64], v: &[u64], s: Small) -> u64
     requires { ⌜ Fit (now k) (now v) s ⌝ }
     ensures { λ r. ⌜ r ≡ last-end (view (now (k .entry)) (now (v .entry)) s .blocks) ⌝ }
 {
-    let a: usize = 0;
-    let b: usize = 256;
+    let a: usize = places::AT_BLOCKS;
+    let b: usize = places::AT_BRANCHES;
     blocks::end(&k[a..b], &v[a..b], s.blocks)
 }
 
@@ -280,8 +305,8 @@ pub fn first_disconnected_block(k: &[u64], v: &[u64], s: Small) -> blocks::Block
     requires { ⌜ Fit (now k) (now v) s ⌝ }
     ensures { λ r. ⌜ block (r .start) (r .end) ≡ first-disconnected-block (view (now (k .entry)) (now (v .entry)) s .blocks) ⌝ }
 {
-    let a: usize = 0;
-    let b: usize = 256;
+    let a: usize = places::AT_BLOCKS;
+    let b: usize = places::AT_BRANCHES;
     blocks::first_disconnected_block(&k[a..b], &v[a..b], s.blocks)
 }
 
@@ -315,8 +340,8 @@ pub fn any_open(k: &[u64], v: &[u64], s: Small) -> bool
     requires { ⌜ Fit (now k) (now v) s ⌝ }
     ensures { λ r. ⌜ r ≡ any is-open (view (now (k .entry)) (now (v .entry)) s .blocks) ⌝ }
 {
-    let a: usize = 0;
-    let b: usize = 256;
+    let a: usize = places::AT_BLOCKS;
+    let b: usize = places::AT_BRANCHES;
     any_within(&v[a..b], s.blocks, 0, 0)
 }
 
@@ -325,8 +350,8 @@ pub fn is_reference(k: &[u64], v: &[u64], s: Small, addr: u64) -> bool
     requires { ⌜ Fit (now k) (now v) s ⌝ }
     ensures { λ r. ⌜ r ≡ has self addr (view (now (k .entry)) (now (v .entry)) s .references) ⌝ }
 {
-    let a: usize = 1280;
-    let b: usize = 1536;
+    let a: usize = places::AT_REFERENCES;
+    let b: usize = places::AT_TABLES;
     ordered::find(&k[a..b], s.references, addr).hit
 }
 
@@ -335,8 +360,8 @@ pub fn any_reference(k: &[u64], v: &[u64], s: Small, low: u64, high: u64) -> boo
     requires { ⌜ Fit (now k) (now v) s ⌝ }
     ensures { λ r. ⌜ r ≡ any (λ x. leb low x && leb x high) (view (now (k .entry)) (now (v .entry)) s .references) ⌝ }
 {
-    let a: usize = 1280;
-    let b: usize = 1536;
+    let a: usize = places::AT_REFERENCES;
+    let b: usize = places::AT_TABLES;
     any_within(&k[a..b], s.references, low, high)
 }
 
@@ -357,8 +382,8 @@ pub fn next_possible(k: &[u64], v: &[u64], s: Small, current: u64) -> u64
     requires { ⌜ Fit (now k) (now v) s ⌝ }
     ensures { λ r. ⌜ r ≡ upper self current 0 (view (now (k .entry)) (now (v .entry)) s .possible) ⌝ }
 {
-    let a: usize = 1792;
-    let b: usize = 1920;
+    let a: usize = places::AT_POSSIBLE;
+    let b: usize = places::AT_PENDING;
     upper(&k[a..b], s.possible, current)
 }
 
@@ -384,7 +409,7 @@ fn with_references(n: usize) -> Small
 
 // Nothing yet.
 pub fn empty(k: &[u64], v: &[u64]) -> Small
-    requires { ⌜ (length (now k) ≡ 2176) × (length (now v) ≡ 1536) ⌝ }
+    requires { ⌜ (length (now k) ≡ KEYS) × (length (now v) ≡ VALUES) ⌝ }
     ensures { λ r. ⌜ Are (with-only []) (now (k .entry)) (now (v .entry)) r ⌝ }
 {
     with_references(0)
@@ -399,11 +424,11 @@ pub fn copy_references(
     values: &mut [u64],
 ) -> Small
     requires fit { ⌜ Fit (now k) (now v) s ⌝ }
-    requires lent { ⌜ (length (now keys) ≡ 2176) × (length (now values) ≡ 1536) ⌝ }
+    requires lent { ⌜ (length (now keys) ≡ KEYS) × (length (now values) ≡ VALUES) ⌝ }
     ensures { λ r. ⌜ Is (ok (with-only (view (now (k .entry)) (now (v .entry)) s .references))) (now (keys .entry)) (now (keys .exit)) (now (values .exit)) r ⌝ }
 {
-    let a: usize = 1280;
-    let b: usize = 1536;
+    let a: usize = places::AT_REFERENCES;
+    let b: usize = places::AT_TABLES;
     let n = s.references;
     runs::copy_in(&mut keys[a..b], 0, &k[a..b], n);
     with_references(n)

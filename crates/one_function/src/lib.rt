@@ -19,6 +19,8 @@ ghost use Rattle.callback.specs.Lends.{LendsAll, Of};
 ghost use Rattle.analyze.specs.Analysis.{answered};
 ghost use Rattle.one_function.specs.Results.{no-function, kept-in, Finished, Told, Checked};
 ghost use Rattle.known_rows.specs.Rows.{are-known-list, known-blocks};
+ghost use Rattle.known.specs.Table.{KNOWN};
+use lists::places;
 
 // 0, or why there is no map of it; whether there is a function; how many elements each list has; and what is no list. A block's
 // start counts once, a way on once for each target.
@@ -58,8 +60,8 @@ fn no_function(number: u32) -> Function
 
 // An analysis is stored, if the lent list is long enough (4).
 fn finish(
-    k: &[u64; 2176],
-    v: &[u64; 1536],
+    k: &[u64; places::KEYS],
+    v: &[u64; places::VALUES],
     s: lists::Small,
     found: bool,
     list: &mut [u64],
@@ -104,8 +106,8 @@ fn walked(
     requires { ⌜ LendsAll (now sections) (now bytes) (now outcomes) (now functions) (now objects) (now known) a ⌝ }
     ensures { λ r. ⌜ ((e : steps.Around) (o : Of (now (sections .entry)) (now (bytes .entry)) (now (functions .entry)) (now (objects .entry)) (now (known .entry)) a e) → o .lent .outcomes ≡ now (outcomes .entry) → Finished (kept-in (length (now (list .entry))) (analyze e (a .start) (with-only []))) (now (list .entry)) (now (list .exit)) r) ⌝ }
 {
-    let mut k: [u64; 2176] = [0; 2176];
-    let mut v: [u64; 1536] = [0; 1536];
+    let mut k: [u64; places::KEYS] = [0; places::KEYS];
+    let mut v: [u64; places::VALUES] = [0; places::VALUES];
     let s = lists::empty(&k, &v);
     let start = a.start;
     let r = analyze::analyze(
@@ -165,7 +167,7 @@ fn check_walk(
     end: u64,
     table: &mut [u64],
 ) -> u32
-    requires { ⌜ length (now table) ≡ 2048 ⌝ }
+    requires { ⌜ length (now table) ≡ KNOWN ⌝ }
     ensures { λ r. ⌜ Checked (given (lent (now (sections .entry)) (now (bytes .entry)) (now (outcomes .entry)) (now (functions .entry)) (now (objects .entry)) (now (skips .entry)) (now (entry .entry)))) (now (known .entry)) start end (now (table .exit)) r ⌝ }
 {
     let n = obj::checks::check(sections, bytes, outcomes, functions, objects, skips, entry);
@@ -196,7 +198,7 @@ pub fn walk_function(
 ) -> Function
     ensures { λ r. ⌜ Told (rules.walk-function (given (lent (now (sections .entry)) (now (bytes .entry)) (now (outcomes .entry)) (now (functions .entry)) (now (objects .entry)) (now (skips .entry)) (now (entry .entry)))) (are-known-list (now (known .entry))) (known-blocks (now (known .entry))) start end (length (now (list .entry)))) (now (list .entry)) (now (list .exit)) r ⌝ }
 {
-    let mut table: [u64; 2048] = [0; 2048];
+    let mut table: [u64; known::KNOWN] = [0; known::KNOWN];
     let n = check_walk(
         sections,
         bytes,

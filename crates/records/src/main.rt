@@ -17,6 +17,7 @@
 ghost use mathlib.Core.Path.{_≡_};
 ghost use Rattle.records_blocks.specs.Records.{mark-records, cut-records, list-of, IsDone};
 ghost use Rattle.records_pending.specs.Record.{IsPushed, IsPopped};
+use lists::places;
 use marks::Marking;
 use records_blocks::Block;
 use records_blocks::Done;
@@ -99,7 +100,7 @@ struct Tables {
 struct Lists {
     addresses: [u64; 256],
     count: usize,
-    keys: [u64; 2176],
+    keys: [u64; places::KEYS],
     pending: usize,
     apart: u64,
 }
@@ -120,7 +121,7 @@ fn none_pending() -> Lists {
     Lists {
         addresses: [0; 256],
         count: 0,
-        keys: [0; 2176],
+        keys: [0; places::KEYS],
         pending: 0,
         apart: 0,
     }
@@ -162,10 +163,10 @@ fn sum_of_list(p: [u64; 256]) -> u64 {
     h
 }
 
-fn sum_of_keys(k: [u64; 2176]) -> u64 {
+fn sum_of_keys(k: [u64; places::KEYS]) -> u64 {
     let mut h: u64 = 0;
-    let mut i: usize = 1920;
-    while i < 2176 {
+    let mut i: usize = places::AT_PENDING;
+    while i < places::KEYS {
         h = mix(h, k[i]);
         i += 1;
     }
@@ -188,10 +189,10 @@ fn is_same_table(t: [Block; 260], ss: [u64; 260], es: [u64; 260]) -> bool {
 }
 
 // Whether every address is the same in both.
-fn is_same_list(p: [u64; 256], k: [u64; 2176]) -> bool {
+fn is_same_list(p: [u64; 256], k: [u64; places::KEYS]) -> bool {
     let mut i: usize = 0;
     while i < 256 {
-        if p[i] != k[1920 + i] {
+        if p[i] != k[places::AT_PENDING + i] {
             return false;
         }
         i += 1;

@@ -4,12 +4,12 @@ ghost use mathlib.Core.List.{List, _∷_};
 ghost use Prim.Native.Nat.{_+_, _*_, _≤_, _<_};
 ghost use lib.ListN.{length, take, drop, getD};
 ghost use Rattle.rules.specs.Known.{Entry};
-ghost use Rattle.entries.specs.Table.{Holds, Good};
+ghost use Rattle.entries.specs.Table.{Holds, Good, KNOWN, INFOS};
 ghost use Rattle.results.specs.Rows.{padded, RowPut, RowsAre, Results};
 
 // The row of entry i.
 fn put_row(rows: &mut [u64], known: &[u64], infos: &[u64], i: usize)
-    requires { ⌜ (length (now known) ≡ 2048) × (length (now infos) ≡ 8192) × (i < 1024) × (i * 10 + 10 ≤ length (now rows)) ⌝ }
+    requires { ⌜ (length (now known) ≡ KNOWN) × (length (now infos) ≡ INFOS) × (i < 1024) × (i * 10 + 10 ≤ length (now rows)) ⌝ }
     ensures { λ _. ⌜ RowPut (i * 10) (getD (now (known .entry)) i 0 ∷ getD (now (known .entry)) (1024 + i) 0 ∷ take 8 (drop (i * 8) (now (infos .entry)))) (now (rows .entry)) (now (rows .exit)) ⌝ }
 {
     let p = i * 10;

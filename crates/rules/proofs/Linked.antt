@@ -28,11 +28,10 @@ use Rattle.rules.proofs.Keeps
 use Rattle.rules.specs.Ordered
 use Rattle.rules.proofs.Keeps.{Laws, In, Aimed, Other, run-walk-keeps}
 use Rattle.rules.proofs.Tidy
-use Rattle.rules.proofs.Tidy.{Proper, open-one, closed, TidyBlocks, mark-tidy, Aligned, Names, Framed, Word, Tidy, tidy-laws, restarts-tidy}
+use Rattle.rules.proofs.Tidy.{Proper, open-one, closed, TidyBlocks, mark-tidy, Aligned, Names, Framed, Word, Tidy, tidy-laws, restarts-tidy, apart-holds}
 use Rattle.rules.proofs.Starts.{among-mark, mark-among}
 use Rattle.rules.proofs.Rows.{all-without, All, all-map, all-zip, all-of, all-swap, all-put, lower-holds, last-holds, Among, among-put, among-last, all-above}
 use Rattle.rules.proofs.Tests.{and-left, and-right, or-right}
-use Rattle.rules.proofs.Tidy.{apart-holds}
 
 -- ---- lists
 

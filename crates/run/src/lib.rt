@@ -8,17 +8,19 @@ ghost use Rattle.rules.specs.Step as steps;
 ghost use Rattle.rules.specs.Walk as rules;
 ghost use Rattle.obj.specs.Lent.{Lent, image};
 ghost use Rattle.obj.specs.Sections.{Few};
-ghost use Rattle.executor.specs.Bits.{bit};
+ghost use Rattle.executor.specs.Bits.{bit, VISITED};
 ghost use Rattle.executor.specs.Pending.{pending};
 ghost use Rattle.walk.specs.State.{walk-of, Going, Is};
 ghost use Rattle.callback.specs.Around.{IsCodeOf, Safe};
 ghost use Rattle.callback.specs.Lends.{LendsAll, Of};
 ghost use Rattle.run.specs.Steps.{alive, Bits};
+ghost use Rattle.lists.specs.Places.{PENDING, KEYS};
+use lists::places;
 
 // A pending address is walked from, unless it lies outside code or was visited.
 fn take_pending(
     sections: &[u32],
-    visited: &[u32; 2048],
+    visited: &[u32; executor::VISITED],
     code: obj::sections::Code,
     w: walk::Walk,
     addr: u64,
@@ -42,14 +44,14 @@ fn take_pending(
 // The highest pending address is taken.
 fn pop(
     sections: &[u32],
-    visited: &[u32; 2048],
+    visited: &[u32; executor::VISITED],
     k: &[u64],
     code: obj::sections::Code,
     w: walk::Walk,
 ) -> walk::Walk
     requires few { ⌜ Few (now sections) ⌝ }
     requires code { ⌜ (code .size ≤ 262144) × (code .number < 16) ⌝ }
-    requires some { ⌜ (length (now k) ≡ 2176) × ((0 < w .pending) × (w .pending ≤ 256)) ⌝ }
+    requires some { ⌜ (length (now k) ≡ KEYS) × ((0 < w .pending) × (w .pending ≤ PENDING)) ⌝ }
     ensures { λ r. ⌜ ((l : Lent) (e : steps.Around) (v : List ℕ) → l .sections ≡ now (sections .entry) → e .image ≡ image l → IsCodeOf (e .image) code → Going (now (k .entry)) v w → Is (rules.pop e (pending (now (k .entry)) (w .pending)) (walk-of (bit (now (visited .entry))) (now (k .entry)) v w)) (bit (now (visited .entry))) (now (k .entry)) v r) ⌝ }
 {
     let p = executor::pop(k, w.pending);
@@ -75,15 +77,15 @@ fn enter(
     functions: &[u32],
     objects: &[u32],
     known: &[u64],
-    visited: &mut [u32; 2048],
-    k: &mut [u64; 2176],
-    v: &mut [u64; 1536],
+    visited: &mut [u32; executor::VISITED],
+    k: &mut [u64; places::KEYS],
+    v: &mut [u64; places::VALUES],
     a: callback::around::Around,
     w: walk::Walk,
 ) -> walk::Walk
     requires lends { ⌜ LendsAll (now sections) (now bytes) (now outcomes) (now functions) (now objects) (now known) a ⌝ }
     requires going { ⌜ Going (now k) (now v) w ⌝ }
-    requires bits { ⌜ length (now visited) ≡ 2048 ⌝ }
+    requires bits { ⌜ length (now visited) ≡ VISITED ⌝ }
     ensures { λ r. ⌜ Bits (now (visited .exit)) × ((e : steps.Around) (o : Of (now (sections .entry)) (now (bytes .entry)) (now (functions .entry)) (now (objects .entry)) (now (known .entry)) a e) → o .lent .outcomes ≡ now (outcomes .entry) → Is (rules.enter e (w .at) (w .block) (walk-of (bit (now (visited .entry))) (now (k .entry)) (now (v .entry)) w)) (bit (now (visited .exit))) (now (k .exit)) (now (v .exit)) r) ⌝ }
 {
     let addr = w.at;
@@ -133,15 +135,15 @@ fn step(
     functions: &[u32],
     objects: &[u32],
     known: &[u64],
-    visited: &mut [u32; 2048],
-    k: &mut [u64; 2176],
-    v: &mut [u64; 1536],
+    visited: &mut [u32; executor::VISITED],
+    k: &mut [u64; places::KEYS],
+    v: &mut [u64; places::VALUES],
     a: callback::around::Around,
     w: walk::Walk,
 ) -> walk::Walk
     requires lends { ⌜ LendsAll (now sections) (now bytes) (now outcomes) (now functions) (now objects) (now known) a ⌝ }
     requires going { ⌜ Going (now k) (now v) w × (alive w ≡ true) ⌝ }
-    requires bits { ⌜ length (now visited) ≡ 2048 ⌝ }
+    requires bits { ⌜ length (now visited) ≡ VISITED ⌝ }
     ensures { λ r. ⌜ Bits (now (visited .exit)) × ((e : steps.Around) (o : Of (now (sections .entry)) (now (bytes .entry)) (now (functions .entry)) (now (objects .entry)) (now (known .entry)) a e) → o .lent .outcomes ≡ now (outcomes .entry) → Is (rules.step e (walk-of (bit (now (visited .entry))) (now (k .entry)) (now (v .entry)) w)) (bit (now (visited .exit))) (now (k .exit)) (now (v .exit)) r) ⌝ }
 {
     if w.place == 1 {
@@ -170,15 +172,15 @@ pub fn run_walk(
     functions: &[u32],
     objects: &[u32],
     known: &[u64],
-    visited: &mut [u32; 2048],
-    k: &mut [u64; 2176],
-    v: &mut [u64; 1536],
+    visited: &mut [u32; executor::VISITED],
+    k: &mut [u64; places::KEYS],
+    v: &mut [u64; places::VALUES],
     a: callback::around::Around,
     w: walk::Walk,
 ) -> walk::Walk
     requires lends { ⌜ LendsAll (now sections) (now bytes) (now outcomes) (now functions) (now objects) (now known) a ⌝ }
     requires going { ⌜ Going (now k) (now v) w ⌝ }
-    requires bits { ⌜ length (now visited) ≡ 2048 ⌝ }
+    requires bits { ⌜ length (now visited) ≡ VISITED ⌝ }
     ensures { λ r. ⌜ Bits (now (visited .exit)) × ((e : steps.Around) (o : Of (now (sections .entry)) (now (bytes .entry)) (now (functions .entry)) (now (objects .entry)) (now (known .entry)) a e) → o .lent .outcomes ≡ now (outcomes .entry) → Is (rules.run-walk e (walk-of (bit (now (visited .entry))) (now (k .entry)) (now (v .entry)) w)) (bit (now (visited .exit))) (now (k .exit)) (now (v .exit)) r) ⌝ }
 {
     let mut r = w;

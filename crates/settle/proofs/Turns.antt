@@ -23,6 +23,7 @@ use Rattle.slices.proofs.Loops.{aimed-of}
 use Rattle.settle.specs.Settled.{settling-of, IsSettling}
 use Rattle.settle.specs.declared.Settling.{Settling}
 use Rattle.settle.proofs.Cases.{settled-ok, settled-fault, stays}
+use Rattle.lists.specs.Places.{POSSIBLE, AT-POSSIBLE}
 
 -- ---- the measure
 
@@ -41,11 +42,11 @@ left k v t = left-by (settling-of k v t)
 
 -- ---- whether one is left
 
-few : (k v : List ℕ) (s : Small) → Fit k v s → length (view k v s .possible) ≤ 128
+few : (k v : List ℕ) (s : Small) → Fit k v s → length (view k v s .possible) ≤ POSSIBLE
 unfolding view
 few k v s f =
-    let l : length (part 1792 128 k) ≡ 128 = part-length 1792 128 k (omega (arith, f .keys)) in
-    let n : length (take (s .possible) (part 1792 128 k)) ≡ s .possible = length-take-le (s .possible) (part 1792 128 k) (omega (arith, f .held .possible-fit)) in
+    let l : length (part AT-POSSIBLE POSSIBLE k) ≡ 128 = part-length AT-POSSIBLE POSSIBLE k (omega (arith, f .keys)) in
+    let n : length (take (s .possible) (part AT-POSSIBLE POSSIBLE k)) ≡ s .possible = length-take-le (s .possible) (part AT-POSSIBLE POSSIBLE k) (omega (arith, f .held .possible-fit)) in
     omega (arith, f .held .possible-fit)
 
 module _ (k v : List ℕ) (t : Settling) (next : ℕ) (is-next : next ≡ upper self (t .current) 0 (view k v (t .small) .possible)) where

@@ -13,6 +13,7 @@ ghost use Rattle.callback.specs.Lends.{LendsAll, Of};
 ghost use Rattle.tail_calls.specs.Judged.{answer-of};
 ghost use Rattle.tail_calls.specs.declared.TailCall.the-variants.{Possible};
 ghost use Rattle.settle.specs.Settled.{settling-of, looking, IsSettling};
+use lists::places;
 
 // A function's lists, and from where possible blocks are looked at.
 pub struct Settling {
@@ -28,8 +29,8 @@ fn include(
     functions: &[u32],
     objects: &[u32],
     known: &[u64],
-    k: &mut [u64; 2176],
-    v: &mut [u64; 1536],
+    k: &mut [u64; places::KEYS],
+    v: &mut [u64; places::VALUES],
     a: callback::around::Around,
     s: lists::Small,
     addr: u64,
@@ -59,8 +60,8 @@ fn include(
 
 // The possible block at addr is a function of its own, which is referred to.
 fn refer(
-    k: &mut [u64; 2176],
-    v: &mut [u64; 1536],
+    k: &mut [u64; places::KEYS],
+    v: &mut [u64; places::VALUES],
     s: lists::Small,
     addr: u64,
     current: u64,
@@ -81,8 +82,8 @@ fn pass(
     functions: &[u32],
     objects: &[u32],
     known: &[u64],
-    k: &mut [u64; 2176],
-    v: &mut [u64; 1536],
+    k: &mut [u64; places::KEYS],
+    v: &mut [u64; places::VALUES],
     a: callback::around::Around,
     s: lists::Small,
     addr: u64,
@@ -122,8 +123,8 @@ fn settle(
     functions: &[u32],
     objects: &[u32],
     known: &[u64],
-    k: &mut [u64; 2176],
-    v: &mut [u64; 1536],
+    k: &mut [u64; places::KEYS],
+    v: &mut [u64; places::VALUES],
     a: callback::around::Around,
     s: lists::Small,
     addr: u64,
@@ -177,8 +178,8 @@ fn settle_step(
     functions: &[u32],
     objects: &[u32],
     known: &[u64],
-    k: &mut [u64; 2176],
-    v: &mut [u64; 1536],
+    k: &mut [u64; places::KEYS],
+    v: &mut [u64; places::VALUES],
     a: callback::around::Around,
     t: Settling,
     low: u64,
@@ -238,8 +239,8 @@ pub fn settle_all(
     functions: &[u32],
     objects: &[u32],
     known: &[u64],
-    k: &mut [u64; 2176],
-    v: &mut [u64; 1536],
+    k: &mut [u64; places::KEYS],
+    v: &mut [u64; places::VALUES],
     a: callback::around::Around,
     s: lists::Small,
     low: u64,

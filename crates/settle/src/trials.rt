@@ -7,6 +7,7 @@ ghost use Rattle.rules.specs.TailCall as rules;
 ghost use Rattle.lists.specs.View.{view, Fit};
 ghost use Rattle.callback.specs.Lends.{LendsAll, Of};
 ghost use Rattle.tail_calls.specs.Judged.{Decides};
+use lists::places;
 
 // The trial walks from addr with lists of its own, in which only the references stand.
 fn trial(
@@ -16,7 +17,7 @@ fn trial(
     functions: &[u32],
     objects: &[u32],
     known: &[u64],
-    k: &mut [u64; 2176],
+    k: &mut [u64; places::KEYS],
     v: &[u64],
     a: callback::around::Around,
     s: lists::Small,
@@ -26,8 +27,8 @@ fn trial(
     requires fit { ⌜ Fit (now k) (now v) s × (s .fault ≡ 0) ⌝ }
     ensures { λ r. ⌜ ((e : steps.Around) (o : Of (now (sections .entry)) (now (bytes .entry)) (now (functions .entry)) (now (objects .entry)) (now (known .entry)) a e) → o .lent .outcomes ≡ now (outcomes .entry) → Decides (rules.trial e addr (view (now (k .entry)) (now (v .entry)) s)) (now (k .entry)) (now (k .exit)) (now (v .entry)) r) ⌝ }
 {
-    let mut tk: [u64; 2176] = [0; 2176];
-    let mut tv: [u64; 1536] = [0; 1536];
+    let mut tk: [u64; places::KEYS] = [0; places::KEYS];
+    let mut tv: [u64; places::VALUES] = [0; places::VALUES];
     let t = lists::copy_references(k, v, s, &mut tk, &mut tv);
     let r = analyze::analyze(
         sections,
@@ -60,7 +61,7 @@ pub fn check_tail_call(
     functions: &[u32],
     objects: &[u32],
     known: &[u64],
-    k: &mut [u64; 2176],
+    k: &mut [u64; places::KEYS],
     v: &[u64],
     a: callback::around::Around,
     s: lists::Small,

@@ -8,12 +8,13 @@ ghost use lib.ListN.{length};
 ghost use Rattle.rules.specs.Blocks.{first-disconnected-block};
 ghost use Rattle.rules.specs.Step as steps;
 ghost use Rattle.rules.specs.Analyze as rules;
-ghost use Rattle.executor.specs.Bits.{bit};
+ghost use Rattle.executor.specs.Bits.{bit, VISITED};
 ghost use Rattle.lists.specs.View.{view, Fit};
 ghost use Rattle.walk.specs.State.{walk-of, place-of, Going, Is};
 ghost use Rattle.callback.specs.Lends.{LendsAll, Of};
 ghost use Rattle.run.specs.Steps.{Bits};
 ghost use Rattle.slices.specs.Passes.{restarted, apart};
+use lists::places;
 
 // Whether the walk met no function.
 pub fn is_nowhere(w: walk::Walk) -> bool
@@ -43,16 +44,16 @@ pub fn walk_from(
     functions: &[u32],
     objects: &[u32],
     known: &[u64],
-    visited: &mut [u32; 2048],
-    k: &mut [u64; 2176],
-    v: &mut [u64; 1536],
+    visited: &mut [u32; executor::VISITED],
+    k: &mut [u64; places::KEYS],
+    v: &mut [u64; places::VALUES],
     a: callback::around::Around,
     w: walk::Walk,
     addr: u64,
 ) -> walk::Walk
     requires lends { ⌜ LendsAll (now sections) (now bytes) (now outcomes) (now functions) (now objects) (now known) a ⌝ }
     requires going { ⌜ Going (now k) (now v) w ⌝ }
-    requires bits { ⌜ length (now visited) ≡ 2048 ⌝ }
+    requires bits { ⌜ length (now visited) ≡ VISITED ⌝ }
     ensures { λ r. ⌜ Bits (now (visited .exit)) × ((e : steps.Around) (o : Of (now (sections .entry)) (now (bytes .entry)) (now (functions .entry)) (now (objects .entry)) (now (known .entry)) a e) → o .lent .outcomes ≡ now (outcomes .entry) → Is (rules.walk-from e addr (walk-of (bit (now (visited .entry))) (now (k .entry)) (now (v .entry)) w)) (bit (now (visited .exit))) (now (k .exit)) (now (v .exit)) r) ⌝ }
 {
     let p = walk::push(k, v, start_pass(w), addr);
@@ -95,16 +96,16 @@ pub fn run_pass(
     functions: &[u32],
     objects: &[u32],
     known: &[u64],
-    visited: &mut [u32; 2048],
-    k: &mut [u64; 2176],
-    v: &mut [u64; 1536],
+    visited: &mut [u32; executor::VISITED],
+    k: &mut [u64; places::KEYS],
+    v: &mut [u64; places::VALUES],
     a: callback::around::Around,
     w: walk::Walk,
     addr: u64,
 ) -> walk::Walk
     requires lends { ⌜ LendsAll (now sections) (now bytes) (now outcomes) (now functions) (now objects) (now known) a ⌝ }
     requires going { ⌜ Going (now k) (now v) w ⌝ }
-    requires bits { ⌜ length (now visited) ≡ 2048 ⌝ }
+    requires bits { ⌜ length (now visited) ≡ VISITED ⌝ }
     ensures { λ r. ⌜ Bits (now (visited .exit)) × ((e : steps.Around) (o : Of (now (sections .entry)) (now (bytes .entry)) (now (functions .entry)) (now (objects .entry)) (now (known .entry)) a e) → o .lent .outcomes ≡ now (outcomes .entry) → Is (rules.run-pass e addr (walk-of (bit (now (visited .entry))) (now (k .entry)) (now (v .entry)) w)) (bit (now (visited .exit))) (now (k .exit)) (now (v .exit)) r) ⌝ }
 {
     let r = walk_from(
@@ -146,15 +147,15 @@ fn connect_step(
     functions: &[u32],
     objects: &[u32],
     known: &[u64],
-    visited: &mut [u32; 2048],
-    k: &mut [u64; 2176],
-    v: &mut [u64; 1536],
+    visited: &mut [u32; executor::VISITED],
+    k: &mut [u64; places::KEYS],
+    v: &mut [u64; places::VALUES],
     a: callback::around::Around,
     w: walk::Walk,
 ) -> walk::Walk
     requires lends { ⌜ LendsAll (now sections) (now bytes) (now outcomes) (now functions) (now objects) (now known) a ⌝ }
     requires going { ⌜ Going (now k) (now v) w ⌝ }
-    requires bits { ⌜ length (now visited) ≡ 2048 ⌝ }
+    requires bits { ⌜ length (now visited) ≡ VISITED ⌝ }
     ensures { λ r. ⌜ Bits (now (visited .exit)) × ((e : steps.Around) (o : Of (now (sections .entry)) (now (bytes .entry)) (now (functions .entry)) (now (objects .entry)) (now (known .entry)) a e) → o .lent .outcomes ≡ now (outcomes .entry) → Is (rules.connect-step e (walk-of (bit (now (visited .entry))) (now (k .entry)) (now (v .entry)) w)) (bit (now (visited .exit))) (now (k .exit)) (now (v .exit)) r) ⌝ }
 {
     let b = lists::first_disconnected_block(k, v, w.small);
@@ -183,15 +184,15 @@ pub fn connect(
     functions: &[u32],
     objects: &[u32],
     known: &[u64],
-    visited: &mut [u32; 2048],
-    k: &mut [u64; 2176],
-    v: &mut [u64; 1536],
+    visited: &mut [u32; executor::VISITED],
+    k: &mut [u64; places::KEYS],
+    v: &mut [u64; places::VALUES],
     a: callback::around::Around,
     w: walk::Walk,
 ) -> walk::Walk
     requires lends { ⌜ LendsAll (now sections) (now bytes) (now outcomes) (now functions) (now objects) (now known) a ⌝ }
     requires going { ⌜ Going (now k) (now v) w ⌝ }
-    requires bits { ⌜ length (now visited) ≡ 2048 ⌝ }
+    requires bits { ⌜ length (now visited) ≡ VISITED ⌝ }
     ensures { λ r. ⌜ Bits (now (visited .exit)) × ((e : steps.Around) (o : Of (now (sections .entry)) (now (bytes .entry)) (now (functions .entry)) (now (objects .entry)) (now (known .entry)) a e) → o .lent .outcomes ≡ now (outcomes .entry) → Is (rules.connect e (walk-of (bit (now (visited .entry))) (now (k .entry)) (now (v .entry)) w)) (bit (now (visited .exit))) (now (k .exit)) (now (v .exit)) r) ⌝ }
 {
     let mut r = w;

@@ -18,6 +18,7 @@ use Rattle.stored.specs.Laid.{laid, Laid, Stored, flow, others}
 use Rattle.stored.proofs.Numbers.{numbers-parted, parted-count}
 use Rattle.stored.proofs.Laying.{size-after, laid-then}
 use Rattle.stored.proofs.Columns.{starts-fit, ends-fit, froms-fit, tos-fit, references-fit, addresses-fit, sizes-fit, possible-fit, both-long, flow-is, others-is, flow-long, others-long, blocks-columns, ways-columns, references-column, tables-columns, possible-column}
+use Rattle.lists.specs.Places.{BLOCKS, BRANCHES, REFERENCES, TABLES, POSSIBLE, AT-BLOCKS, AT-BRANCHES, AT-REFERENCES, AT-TABLES, AT-POSSIBLE, AT-SIZES}
 
 -- ---- two columns
 
@@ -36,7 +37,7 @@ module _ (out : List ℕ) (at : ℕ) (xs ys : List ℕ) (n : ℕ) (hx : n ≤ le
 
 module _ (k v : List ℕ) (s : Small) (f : Fit k v s) (out : List ℕ) (at : ℕ) where
   module _ (room : at + length (flow (view k v s)) ≤ length out) where
-    pub blocks-first : (s .blocks ≤ length (part 0 256 k)) × (s .blocks ≤ length (part 0 256 v)) × (at + s .blocks + s .blocks ≤ length out)
+    pub blocks-first : (s .blocks ≤ length (part AT-BLOCKS BLOCKS k)) × (s .blocks ≤ length (part AT-BLOCKS BLOCKS v)) × (at + s .blocks + s .blocks ≤ length out)
     blocks-first = (starts-fit k v s f, ends-fit k v s f, omega (arith, flow-long k v s f))
 
     module _ (m : List ℕ) (next : ℕ) (h : Laid (blocks-columns k v s f) out at m next) where
@@ -46,7 +47,7 @@ module _ (k v : List ℕ) (s : Small) (f : Fit k v s) (out : List ℕ) (at : ℕ
       blocks-within : at + length (blocks-columns k v s f) ≤ length out
       blocks-within = omega (arith, blocks-long, flow-long k v s f)
 
-      pub ways-next : (s .ways ≤ length (part 256 1024 k)) × (s .ways ≤ length (part 256 1024 v)) × (next + s .ways + s .ways ≤ length m)
+      pub ways-next : (s .ways ≤ length (part AT-BRANCHES BRANCHES k)) × (s .ways ≤ length (part AT-BRANCHES BRANCHES v)) × (next + s .ways + s .ways ≤ length m)
       ways-next =
           (froms-fit k v s f, tos-fit k v s f, omega (arith, h .past, blocks-long, flow-long k v s f, size-after out at (blocks-columns k v s f) blocks-within m next h))
 
@@ -56,7 +57,7 @@ module _ (k v : List ℕ) (s : Small) (f : Fit k v s) (out : List ℕ) (at : ℕ
   -- ---- references, jump tables, possible blocks
 
   module _ (room : at + length (others (view k v s)) ≤ length out) where
-    pub references-first : (s .references ≤ length (part 1280 256 k)) × (at + s .references ≤ length out)
+    pub references-first : (s .references ≤ length (part AT-REFERENCES REFERENCES k)) × (at + s .references ≤ length out)
     references-first = (references-fit k v s f, omega (arith, others-long k v s f))
 
     module _ (m : List ℕ) (next : ℕ) (h : Laid (references-column k v s f) out at m next) where
@@ -69,7 +70,7 @@ module _ (k v : List ℕ) (s : Small) (f : Fit k v s) (out : List ℕ) (at : ℕ
       size-m : length m ≡ length out
       size-m = size-after out at (references-column k v s f) references-within m next h
 
-      pub tables-next : (s .tables ≤ length (part 1536 256 k)) × (s .tables ≤ length (part 1280 256 v)) × (next + s .tables + s .tables ≤ length m)
+      pub tables-next : (s .tables ≤ length (part AT-TABLES TABLES k)) × (s .tables ≤ length (part AT-SIZES TABLES v)) × (next + s .tables + s .tables ≤ length m)
       tables-next = (addresses-fit k v s f, sizes-fit k v s f, omega (arith, h .past, references-long, others-long k v s f, size-m))
 
       module _ (o : List ℕ) (then : ℕ) (g : Laid (tables-columns k v s f) m next o then) where
@@ -84,7 +85,7 @@ module _ (k v : List ℕ) (s : Small) (f : Fit k v s) (out : List ℕ) (at : ℕ
         both-within : at + length (references-column k v s f ++ tables-columns k v s f) ≤ length out
         both-within = omega (arith, both-size, others-long k v s f)
 
-        pub possible-next : (s .possible ≤ length (part 1792 128 k)) × (then + s .possible ≤ length o)
+        pub possible-next : (s .possible ≤ length (part AT-POSSIBLE POSSIBLE k)) × (then + s .possible ≤ length o)
         possible-next =
             (possible-fit k v s f, omega (arith, both .past, both-size, others-long k v s f, size-after out at (references-column k v s f ++ tables-columns k v s f) both-within o then both))
 

@@ -18,6 +18,7 @@ use Rattle.lists.specs.View.{part, table, view, Fit}
 use Rattle.lists.specs.declared.Small.{Small}
 use Rattle.lists.proofs.Parts.{part-length}
 use Rattle.stored.specs.Laid.{flow, others}
+use Rattle.lists.specs.Places.{BLOCKS, BRANCHES, REFERENCES, TABLES, POSSIBLE, AT-BLOCKS, AT-BRANCHES, AT-REFERENCES, AT-TABLES, AT-POSSIBLE, AT-SIZES}
 
 -- ---- ways on, grouped and told one by one again
 
@@ -70,57 +71,57 @@ module _ (n : ℕ) (xs ys : List ℕ) (hx : n ≤ length xs) (hy : n ≤ length 
 
 module _ (k v : List ℕ) (s : Small) (f : Fit k v s) where
   -- each column is as long as its count
-  pub starts-fit : s .blocks ≤ length (part 0 256 k)
-  starts-fit = omega (arith, f .held .blocks-fit, part-length 0 256 k (omega (arith, f .keys)))
+  pub starts-fit : s .blocks ≤ length (part AT-BLOCKS BLOCKS k)
+  starts-fit = omega (arith, f .held .blocks-fit, part-length AT-BLOCKS BLOCKS k (omega (arith, f .keys)))
 
-  pub ends-fit : s .blocks ≤ length (part 0 256 v)
-  ends-fit = omega (arith, f .held .blocks-fit, part-length 0 256 v (omega (arith, f .values)))
+  pub ends-fit : s .blocks ≤ length (part AT-BLOCKS BLOCKS v)
+  ends-fit = omega (arith, f .held .blocks-fit, part-length AT-BLOCKS BLOCKS v (omega (arith, f .values)))
 
-  pub froms-fit : s .ways ≤ length (part 256 1024 k)
-  froms-fit = omega (arith, f .held .ways-fit, part-length 256 1024 k (omega (arith, f .keys)))
+  pub froms-fit : s .ways ≤ length (part AT-BRANCHES BRANCHES k)
+  froms-fit = omega (arith, f .held .ways-fit, part-length AT-BRANCHES BRANCHES k (omega (arith, f .keys)))
 
-  pub tos-fit : s .ways ≤ length (part 256 1024 v)
-  tos-fit = omega (arith, f .held .ways-fit, part-length 256 1024 v (omega (arith, f .values)))
+  pub tos-fit : s .ways ≤ length (part AT-BRANCHES BRANCHES v)
+  tos-fit = omega (arith, f .held .ways-fit, part-length AT-BRANCHES BRANCHES v (omega (arith, f .values)))
 
-  pub references-fit : s .references ≤ length (part 1280 256 k)
-  references-fit = omega (arith, f .held .references-fit, part-length 1280 256 k (omega (arith, f .keys)))
+  pub references-fit : s .references ≤ length (part AT-REFERENCES REFERENCES k)
+  references-fit = omega (arith, f .held .references-fit, part-length AT-REFERENCES REFERENCES k (omega (arith, f .keys)))
 
-  pub addresses-fit : s .tables ≤ length (part 1536 256 k)
-  addresses-fit = omega (arith, f .held .tables-fit, part-length 1536 256 k (omega (arith, f .keys)))
+  pub addresses-fit : s .tables ≤ length (part AT-TABLES TABLES k)
+  addresses-fit = omega (arith, f .held .tables-fit, part-length AT-TABLES TABLES k (omega (arith, f .keys)))
 
-  pub sizes-fit : s .tables ≤ length (part 1280 256 v)
-  sizes-fit = omega (arith, f .held .tables-fit, part-length 1280 256 v (omega (arith, f .values)))
+  pub sizes-fit : s .tables ≤ length (part AT-SIZES TABLES v)
+  sizes-fit = omega (arith, f .held .tables-fit, part-length AT-SIZES TABLES v (omega (arith, f .values)))
 
-  pub possible-fit : s .possible ≤ length (part 1792 128 k)
-  possible-fit = omega (arith, f .held .possible-fit, part-length 1792 128 k (omega (arith, f .keys)))
+  pub possible-fit : s .possible ≤ length (part AT-POSSIBLE POSSIBLE k)
+  possible-fit = omega (arith, f .held .possible-fit, part-length AT-POSSIBLE POSSIBLE k (omega (arith, f .keys)))
 
   -- the columns two by two
   abbrev pub blocks-columns : List ℕ
-  blocks-columns = take (s .blocks) (part 0 256 k) ++ take (s .blocks) (part 0 256 v)
+  blocks-columns = take (s .blocks) (part AT-BLOCKS BLOCKS k) ++ take (s .blocks) (part AT-BLOCKS BLOCKS v)
 
   abbrev pub ways-columns : List ℕ
-  ways-columns = take (s .ways) (part 256 1024 k) ++ take (s .ways) (part 256 1024 v)
+  ways-columns = take (s .ways) (part AT-BRANCHES BRANCHES k) ++ take (s .ways) (part AT-BRANCHES BRANCHES v)
 
   abbrev pub references-column : List ℕ
-  references-column = take (s .references) (part 1280 256 k)
+  references-column = take (s .references) (part AT-REFERENCES REFERENCES k)
 
   abbrev pub tables-columns : List ℕ
-  tables-columns = take (s .tables) (part 1536 256 k) ++ take (s .tables) (part 1280 256 v)
+  tables-columns = take (s .tables) (part AT-TABLES TABLES k) ++ take (s .tables) (part AT-SIZES TABLES v)
 
   abbrev pub possible-column : List ℕ
-  possible-column = take (s .possible) (part 1792 128 k)
+  possible-column = take (s .possible) (part AT-POSSIBLE POSSIBLE k)
 
   pub flow-is : flow (view k v s) ≡ blocks-columns ++ ways-columns
   unfolding view
   flow-is =
       rw (starts-are _ _ _ starts-fit ends-fit, ends-are _ _ _ starts-fit ends-fit, froms-are _ _ _ froms-fit tos-fit, tos-are _ _ _ froms-fit tos-fit)
-      (append-assoc blocks-columns (take (s .ways) (part 256 1024 k)) (take (s .ways) (part 256 1024 v)))
+      (append-assoc blocks-columns (take (s .ways) (part AT-BRANCHES BRANCHES k)) (take (s .ways) (part AT-BRANCHES BRANCHES v)))
 
   pub others-is : others (view k v s) ≡ references-column ++ tables-columns ++ possible-column
   unfolding view
   others-is =
       rw (addresses-are _ _ _ addresses-fit sizes-fit, sizes-are _ _ _ addresses-fit sizes-fit)
-      (ap (λ (l : List ℕ). l ++ possible-column) (append-assoc references-column (take (s .tables) (part 1536 256 k)) (take (s .tables) (part 1280 256 v))))
+      (ap (λ (l : List ℕ). l ++ possible-column) (append-assoc references-column (take (s .tables) (part AT-TABLES TABLES k)) (take (s .tables) (part AT-SIZES TABLES v))))
 
   pub flow-long : length (flow (view k v s)) ≡ (s .blocks + s .blocks) + (s .ways + s .ways)
   flow-long = ap length flow-is ∙ length-append blocks-columns ways-columns ∙ ap₂ (λ (i j : ℕ). i + j) (both-long _ _ _ starts-fit ends-fit) (both-long _ _ _ froms-fit tos-fit)

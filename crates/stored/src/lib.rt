@@ -6,6 +6,7 @@ ghost use lib.ListN.{length, take, replicate};
 ghost use Rattle.rules.specs.OneFunction.{numbers};
 ghost use Rattle.lists.specs.View.{view, Fit};
 ghost use Rattle.stored.specs.Laid.{Laid, Stored, flow, others};
+use lists::places;
 
 // How many numbers the lists take: two for a block, a way on or a jump table, one for a reference or a possible block.
 pub fn size(k: &[u64], v: &[u64], s: lists::Small) -> usize
@@ -39,9 +40,9 @@ fn put_flow(k: &[u64], v: &[u64], s: lists::Small, out: &mut [u64], at: usize) -
     requires { ⌜ Fit (now k) (now v) s × (at + length (flow (view (now k) (now v) s)) ≤ length (now out)) ⌝ }
     ensures { λ r. ⌜ Laid (flow (view (now (k .entry)) (now (v .entry)) s)) (now (out .entry)) at (now (out .exit)) r ⌝ }
 {
-    let a: usize = 0;
-    let b: usize = 256;
-    let c: usize = 1280;
+    let a: usize = places::AT_BLOCKS;
+    let b: usize = places::AT_BRANCHES;
+    let c: usize = places::AT_REFERENCES;
     let p = put_columns(out, at, &k[a..b], &v[a..b], s.blocks);
     put_columns(out, p, &k[b..c], &v[b..c], s.ways)
 }
@@ -51,10 +52,10 @@ fn put_others(k: &[u64], v: &[u64], s: lists::Small, out: &mut [u64], at: usize)
     requires { ⌜ Fit (now k) (now v) s × (at + length (others (view (now k) (now v) s)) ≤ length (now out)) ⌝ }
     ensures { λ r. ⌜ Laid (others (view (now (k .entry)) (now (v .entry)) s)) (now (out .entry)) at (now (out .exit)) r ⌝ }
 {
-    let a: usize = 1280;
-    let b: usize = 1536;
-    let c: usize = 1792;
-    let d: usize = 1920;
+    let a: usize = places::AT_REFERENCES;
+    let b: usize = places::AT_TABLES;
+    let c: usize = places::AT_POSSIBLE;
+    let d: usize = places::AT_PENDING;
     let p = put_column(out, at, &k[a..b], s.references);
     let q = put_columns(out, p, &k[b..c], &v[a..b], s.tables);
     put_column(out, q, &k[c..d], s.possible)

@@ -24,6 +24,7 @@ use Rattle.tail_calls.specs.Judged.{inside, Dropped, answer-of, Judges, 
 use Rattle.tail_calls.specs.declared.TailCall.{TailCall}
 use Rattle.tail_calls.specs.declared.TailCall.the-variants.{Not, Is, Possible}
 use Rattle.tail_calls.specs.declared.Judged.{Judged}
+use Rattle.lists.specs.Places.{POSSIBLE, AT-POSSIBLE, AT-PENDING}
 
 -- where a test holds of none, all are kept
 none-gone : (p : ℕ → Bool) (l : List ℕ) → any p l ≡ false → filter (λ x. not (p x)) l ≡ l
@@ -186,19 +187,19 @@ module _ (k v : List ℕ) (s : Small) (f : Fit k v s) (z : s .fault ≡ 0) (e : 
   from-there first addr k′ v′ r q h j =
       record { is = if-false (rw (← q) (le-ltb first addr h)) _ _ ∙ j .is; fit = j .fit; fine = j .fine; pending = j .pending }
 
-  module _ (first end : ℕ) (is-first : first ≡ first-start (t .blocks)) (is-end : end ≡ last-end (t .blocks)) (ps : List ℕ) (n : ℕ) (dropped : Dropped (part 1792 128 k) ps (s .possible) first end n) where
-    d : Dropped (part 1792 128 k) ps (s .possible) (first-start (t .blocks)) (last-end (t .blocks)) n
+  module _ (first end : ℕ) (is-first : first ≡ first-start (t .blocks)) (is-end : end ≡ last-end (t .blocks)) (ps : List ℕ) (n : ℕ) (dropped : Dropped (part AT-POSSIBLE POSSIBLE k) ps (s .possible) first end n) where
+    d : Dropped (part AT-POSSIBLE POSSIBLE k) ps (s .possible) (first-start (t .blocks)) (last-end (t .blocks)) n
     d = rw (is-first, is-end) at dropped
 
-    lie : Lent 1792 128 k ps (over 1792 128 k ps)
-    lie = lent 1792 128 k ps (omega (arith, f .keys)) (d .size ∙ part-length 1792 128 k (omega (arith, f .keys)))
+    lie : Lent AT-POSSIBLE POSSIBLE k ps (over AT-POSSIBLE POSSIBLE k ps)
+    lie = lent AT-POSSIBLE POSSIBLE k ps (omega (arith, f .keys)) (d .size ∙ part-length AT-POSSIBLE POSSIBLE k (omega (arith, f .keys)))
 
-    are : Are (with-possible (view k v s) (take n ps)) (over 1792 128 k ps) v (counted s (s .blocks) (s .ways) (s .references) (s .tables) n)
+    are : Are (with-possible (view k v s) (take n ps)) (over AT-POSSIBLE POSSIBLE k ps) v (counted s (s .blocks) (s .ways) (s .references) (s .tables) n)
     are =
-        possible-changed k v s f z ps (over 1792 128 k ps) n lie (omega (arith, d .few, f .held .possible-fit))
-        (rw (d .live) (kept-rising (λ p. not (inside (first-start (t .blocks)) (last-end (t .blocks)) p)) (take (s .possible) (part 1792 128 k)) (f .held .possible-rise)))
+        possible-changed k v s f z ps (over AT-POSSIBLE POSSIBLE k ps) n lie (omega (arith, d .few, f .held .possible-fit))
+        (rw (d .live) (kept-rising (λ p. not (inside (first-start (t .blocks)) (last-end (t .blocks)) p)) (take (s .possible) (part AT-POSSIBLE POSSIBLE k)) (f .held .possible-rise)))
 
-    possible-is : view k v s .possible ≡ take (s .possible) (part 1792 128 k)
+    possible-is : view k v s .possible ≡ take (s .possible) (part AT-POSSIBLE POSSIBLE k)
     unfolding view
     possible-is = refl
 
@@ -208,17 +209,17 @@ module _ (k v : List ℕ) (s : Small) (f : Fit k v s) (z : s .fault ≡ 0) (e : 
     kept-others : filter (λ p. not (rules.is-other e t p)) (view k v s .possible) ≡ take n ps
     kept-others = ap (filter (λ p. not (rules.is-other e t p))) possible-is ∙ sym (d .live)
 
-    pub others-gone : n < s .possible → Judges (rules.judge-others e (view k v s) t) k (over 1792 128 k ps) v (record { small = counted s (s .blocks) (s .ways) (s .references) (s .tables) n; answer = Not })
+    pub others-gone : n < s .possible → Judges (rules.judge-others e (view k v s) t) k (over AT-POSSIBLE POSSIBLE k ps) v (record { small = counted s (s .blocks) (s .ways) (s .references) (s .tables) n; answer = Not })
     unfolding rules.judge-others
     others-gone h =
         record {
           is = if-true (others ∙ lt-ltb n (s .possible) h) _ _ ∙ ap (λ (l : List ℕ). rules.verdict rules.is-not (with-possible (view k v s) l)) kept-others ∙ ap (λ (x : Slices). rules.verdict rules.is-not x) (sym (are .same));
           fit = are .fit;
           fine = are .fine;
-          pending = lie .past 1920 (omega arith);
+          pending = lie .past AT-PENDING (omega arith);
         }
 
-    pub no-others : (a : TailCall) → s .possible ≤ n → answer-of a ≡ rules.own-word e t → Judges (rules.judge-others e (view k v s) t) k (over 1792 128 k ps) v (record { small = counted s (s .blocks) (s .ways) (s .references) (s .tables) n; answer = a })
+    pub no-others : (a : TailCall) → s .possible ≤ n → answer-of a ≡ rules.own-word e t → Judges (rules.judge-others e (view k v s) t) k (over AT-POSSIBLE POSSIBLE k ps) v (record { small = counted s (s .blocks) (s .ways) (s .references) (s .tables) n; answer = a })
     unfolding rules.judge-others
     no-others a h q =
         let none : any (rules.is-other e t) (view k v s .possible) ≡ false = others ∙ le-ltb n (s .possible) h in
@@ -228,7 +229,7 @@ module _ (k v : List ℕ) (s : Small) (f : Fit k v s) (z : s .fault ≡ 0) (e : 
           is = if-false none _ _ ∙ ap (λ (x : rules.TailCall). rules.verdict x (view k v s)) (sym q) ∙ ap (λ (x : Slices). rules.verdict (answer-of a) x) (same ∙ sym (are .same));
           fit = are .fit;
           fine = are .fine;
-          pending = lie .past 1920 (omega arith);
+          pending = lie .past AT-PENDING (omega arith);
         }
 
 -- ---- the trial's own words

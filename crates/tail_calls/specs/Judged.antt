@@ -13,6 +13,7 @@ use Rattle.lists.specs.declared.Small.{Small}
 use Rattle.tail_calls.specs.declared.TailCall.{TailCall}
 use Rattle.tail_calls.specs.declared.TailCall.the-variants.{Not, Is, Possible}
 use Rattle.tail_calls.specs.declared.Judged.{Judged}
+use Rattle.lists.specs.Places.{AT-PENDING}
 
 -- p lies from first + 4 to just below end
 abbrev pub inside : ℕ → ℕ → ℕ → Bool
@@ -35,7 +36,7 @@ pub record Judges (a : Answer rules.Verdict) (k k′ v′ : List ℕ) (r : Judge
   pub is : a ≡ rules.verdict (answer-of (r .answer)) (view k′ v′ (r .small))
   pub fit : Fit k′ v′ (r .small)
   pub fine : r .small .fault ≡ 0
-  pub pending : drop 1920 k′ ≡ drop 1920 k
+  pub pending : drop AT-PENDING k′ ≡ drop AT-PENDING k
 
 -- the answer of a trial walk, by its lists, which have its fault, and by whether it met a function
 unfoldable pub trial-answer : List ℕ → List ℕ → Small → Bool → Answer Analyzed
@@ -45,4 +46,4 @@ trial-answer k v t found = if (eqb (t .fault) 0) (ok (record { slices = view k v
 pub record Decides (a : Answer rules.Verdict) (k k′ v′ : List ℕ) (r : Judged) : Type 0 where
   pub is : a ≡ if (eqb (r .small .fault) 0) (rules.verdict (answer-of (r .answer)) (view k′ v′ (r .small))) (fault (r .small .fault))
   pub fit : r .small .fault ≡ 0 → Fit k′ v′ (r .small)
-  pub pending : drop 1920 k′ ≡ drop 1920 k
+  pub pending : drop AT-PENDING k′ ≡ drop AT-PENDING k

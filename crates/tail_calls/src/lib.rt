@@ -15,6 +15,7 @@ ghost use Rattle.lists.specs.View.{view, Fit};
 ghost use Rattle.callback.specs.Around.{Alike};
 ghost use Rattle.tail_calls.specs.Asked.{Asked, tested};
 ghost use Rattle.tail_calls.specs.Judged.{Dropped, answer-of, Judges, trial-answer, Decides};
+use lists::places;
 
 // What the tests before the trial walk say: not a tail call, one, perhaps one, or that the trial decides.
 pub enum Tested {
@@ -215,8 +216,8 @@ fn judge_others(
 {
     let first = lists::first_start(tk, tv, t);
     let end = lists::last_end(tk, tv, t);
-    let a: usize = 1792;
-    let b: usize = 1920;
+    let a: usize = places::AT_POSSIBLE;
+    let b: usize = places::AT_PENDING;
     let n = drop_others(&mut k[a..b], s.possible, first, end);
     let mut r = s;
     r.possible = n;
@@ -232,7 +233,7 @@ fn judge_others(
 
 // What a trial walk from addr that met a function makes of the possible block there. One that reached back before addr: not a tail call.
 pub fn judge_trial(
-    k: &mut [u64; 2176],
+    k: &mut [u64; places::KEYS],
     v: &[u64],
     s: lists::Small,
     tk: &[u64],
@@ -263,11 +264,11 @@ fn ends_run(n: u32) -> bool
 // What a trial walk from addr makes of the possible block there. The trial's lists have its fault, 0 where there is none, and tell
 // nothing where there is one; `found` says whether it met a function.
 pub fn judge(
-    k: &mut [u64; 2176],
+    k: &mut [u64; places::KEYS],
     v: &[u64],
     s: lists::Small,
-    tk: &[u64; 2176],
-    tv: &[u64; 1536],
+    tk: &[u64; places::KEYS],
+    tv: &[u64; places::VALUES],
     t: lists::Small,
     found: bool,
     addr: u64,

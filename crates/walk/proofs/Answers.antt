@@ -23,6 +23,7 @@ use Rattle.executor.specs.declared.Pushed.{Pushed}
 use Rattle.executor.proofs.Pending.{pending-same, lists-same, lists-fit}
 use Rattle.walk.specs.State.{walk-of, with-small, faulting, place-of, Fits, Going, answer, Is, Listed}
 use Rattle.walk.specs.declared.Walk.{Walk}
+use Rattle.lists.specs.Places.{AT-PENDING}
 
 module _ (vis : ℕ → Bool) (k v : List ℕ) (w : Walk) where
   pub answer-ok : w .small .fault ≡ 0 → answer vis k v w ≡ ok (walk-of vis k v w)
@@ -95,7 +96,7 @@ refit k v s r b w c t p f =
     }
 
 -- the state after a change of the lists, at a place that fits
-module _ (vis : ℕ → Bool) (k v k′ v′ : List ℕ) (w r : Walk) (going : Going k v w) (same : drop 1920 k′ ≡ drop 1920 k) where
+module _ (vis : ℕ → Bool) (k v k′ v′ : List ℕ) (w r : Walk) (going : Going k v w) (same : drop AT-PENDING k′ ≡ drop AT-PENDING k) where
   pub record Moved : Type 0 where
     pub pending : r .pending ≡ w .pending
     pub placed : r .at < 0x10_0000_0000
@@ -134,7 +135,7 @@ abbrev pub pushing : Walk → Pushed → Walk
 pushing w p = record { small = faulting (w .small) (p .fault); pending = p .count; fresh = w .fresh; place = w .place; at = w .at; block = w .block }
 
 module _ (vis : ℕ → Bool) (k v k′ : List ℕ) (w : Walk) (p : Pushed) (addr : ℕ) (g : Going k v w) where
-  pushed-as : (a : Answer (List ℕ)) → Met a → pendings.Told a k′ p → take 1920 k′ ≡ take 1920 k → length k′ ≡ length k → Is (a >>= λ l. ok (rules.with-pending (walk-of vis k v w) l)) vis k′ v (pushing w p)
+  pushed-as : (a : Answer (List ℕ)) → Met a → pendings.Told a k′ p → take AT-PENDING k′ ≡ take AT-PENDING k → length k′ ≡ length k → Is (a >>= λ l. ok (rules.with-pending (walk-of vis k v w) l)) vis k′ v (pushing w p)
   unfolding _>>=_ walk-of place-of view
   pushed-as (ok l) m t e n =
       is-ok vis k′ v (pushing w p) (rw (t .0, lists-same k k′ v (w .small) e) refl) (t .2)
@@ -149,7 +150,7 @@ module _ (vis : ℕ → Bool) (k v k′ : List ℕ) (w : Walk) (p : Pushed) (add
 
 module _ (vis : ℕ → Bool) (k v k′ v′ : List ℕ) (w t : Walk) (addr : ℕ) (m : Marked) (g : Going k v w) (e : t ≡ with-small w (m .small)) where
   -- what the mark made, with the rest of the state as it was
-  pub with-lists : drop 1920 k′ ≡ drop 1920 k → {x : Slices} → view k′ v′ (m .small) ≡ x → rules.with-slices (walk-of vis k v w) x ≡ walk-of vis k′ v′ t
+  pub with-lists : drop AT-PENDING k′ ≡ drop AT-PENDING k → {x : Slices} → view k′ v′ (m .small) ≡ x → rules.with-slices (walk-of vis k v w) x ≡ walk-of vis k′ v′ t
   unfolding walk-of place-of
   with-lists same h =
       rw (e, ← h) (ap (λ (p : List ℕ). record { slices = view k′ v′ (m .small); visited = vis; pending = p; fresh = w .fresh; place = place-of w }) (sym (pending-same k k′ (w .pending) same)))
@@ -163,7 +164,7 @@ module _ (vis : ℕ → Bool) (k v k′ v′ : List ℕ) (w t : Walk) (addr : �
     there : {x : Slices} → m .new ≡ false → is-new addr (view k v (w .small) .blocks) ≡ false → Going k′ v′ t → rules.with-slices (walk-of vis k v w) x ≡ walk-of vis k′ v′ t → Marking (ok x)
     full : {n : ℕ} → t .small .fault ≡ n → (n ≡ 0 → ⊥) → m .new ≡ false → Marking (fault n)
 
-  marking-as : (a : Answer Slices) → Met a → lists.Told a k′ v′ (m .small) → drop 1920 k′ ≡ drop 1920 k → m .new ≡ unless-fault a (is-new addr (view k v (w .small) .blocks)) → Marking a
+  marking-as : (a : Answer Slices) → Met a → lists.Told a k′ v′ (m .small) → drop AT-PENDING k′ ≡ drop AT-PENDING k → m .new ≡ unless-fault a (is-new addr (view k v (w .small) .blocks)) → Marking a
   marking-as (ok x) q h same n =
       by (is-new addr (view k v (w .small) .blocks)) refl
     where

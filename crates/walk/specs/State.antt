@@ -11,6 +11,7 @@ use Rattle.lists.specs.View.{view, Fit}
 use Rattle.lists.specs.declared.Small.{Small}
 use Rattle.executor.specs.Pending.{pending}
 use Rattle.walk.specs.declared.Walk.{Walk}
+use Rattle.lists.specs.Places.{PENDING}
 
 -- an address with a section's number of at most 15: four more is one too
 abbrev pub Low : ℕ → Type 0
@@ -40,7 +41,7 @@ walk-of vis k v w =
 
 pub record Fits (k v : List ℕ) (w : Walk) : Type 0 where
   pub lists : Fit k v (w .small)
-  pub few : w .pending ≤ 256
+  pub few : w .pending ≤ PENDING
   pub placed : Low (w .at)
 
 -- the walk goes on: there is no fault

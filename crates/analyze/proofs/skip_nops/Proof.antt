@@ -1,6 +1,5 @@
-use Rattle.analyze.proofs.Reaches.{nop-low}
+use Rattle.analyze.proofs.Reaches.{nop-low, Skipping, skipping-first, nop-on, other-ends, end-ends}
 use Rattle.callback.proofs.Lends.{bytes-in}
-use Rattle.analyze.proofs.Reaches.{Skipping, skipping-first, nop-on, other-ends, end-ends}
 use Prim.Native.Nat.{_-_}
 use native.Mathlib.Omega.{arith}
 use borrow.Author.Needs.{needs}

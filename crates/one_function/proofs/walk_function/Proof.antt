@@ -1,5 +1,4 @@
-use Rattle.one_function.proofs.Lending.{lends-outcomes}
-use Rattle.one_function.proofs.Lending.{told-refused, few-checked, lends, lends-all, told-walked}
+use Rattle.one_function.proofs.Lending.{lends-outcomes, told-refused, few-checked, lends, lends-all, told-walked}
 use Rattle.known_rows.specs.Rows.{known-blocks}
 use Rattle.rules.specs.OneFunction.{around-one}
 use Rattle.obj.specs.Lent.{lent, image}

@@ -1,8 +1,7 @@
-use Rattle.printing.proofs.Maps.{row-within}
+use Rattle.printing.proofs.Maps.{row-within, tail-is, Left, left-first, left-ends, first-there, size-there, first-room, left-next}
 use Prim.Native.Nat.{_*_, _-_}
 use native.Mathlib.Omega.{arith}
 use borrow.Author.Needs.{needs}
-use Rattle.printing.proofs.Maps.{tail-is, Left, left-first, left-ends, first-there, size-there, first-room, left-next}
 use Rattle.printing.proofs.put_entries.Statement.{statement}
 use Rattle.printing.proofs.put_entries.Tie as tie
 

@@ -2,12 +2,13 @@ use Prim.Native.Nat.{_≤_, _-_}
 use borrow.Author.Needs.{needs}
 use Rattle.records.proofs.sum_of_keys.Statement.{statement}
 use Rattle.records.proofs.sum_of_keys.Tie as tie
+use Rattle.lists.specs.Places.{KEYS}
 
 abbrev Inv-loop : tie.InvT-loop
-Inv-loop k h₀ i₀ h i = i ≤ 2176
+Inv-loop k h₀ i₀ h i = i ≤ KEYS
 
 abbrev μ-loop : tie.MeasureT-loop
-μ-loop k h₀ i₀ h i = 2176 - i
+μ-loop k h₀ i₀ h i = KEYS - i
 
 loop-holds : tie.Need-loop-holds Inv-loop μ-loop
 loop-holds c = search needs
