@@ -32,11 +32,11 @@ struct Reading {
 }
 
 // A reading that met a fault leaves no entries.
-fn failed(entries: &mut [u64], n: usize, fault: u32) -> Table
-    requires { ⌜ Column 256 n (now entries) ⌝ }
+fn failed(entries: &mut [u64], count: usize, fault: u32) -> Table
+    requires { ⌜ Column 256 count (now entries) ⌝ }
     ensures { λ r. ⌜ Column 256 0 (now (entries .exit)) × (r .fault ≡ fault) × (r .count ≡ 0) × (r .size ≡ 0) ⌝ }
 {
-    runs::fill(entries, 0, 0, n);
+    runs::fill(entries, 0, 0, count);
     Table {
         fault,
         count: 0,
@@ -45,18 +45,18 @@ fn failed(entries: &mut [u64], n: usize, fault: u32) -> Table
 }
 
 // The address that a word is, with its section; 0 where it is none.
-fn located(sections: &[u32], v: u32) -> u64
+fn located(sections: &[u32], value: u32) -> u64
     requires { ⌜ Few (now sections) ⌝ }
-    ensures { λ r. ⌜ r ≡ images.locate (seen (now (sections .entry))) v ⌝ }
+    ensures { λ r. ⌜ r ≡ images.locate (seen (now (sections .entry))) value ⌝ }
 {
-    obj::sections::locate(sections, v)
+    obj::sections::locate(sections, value)
 }
 
 // Why a word that is an address can't be taken: 10 before 4; 0 if it can.
-fn entry_fault(v: u32, room: usize) -> u32
-    ensures { λ r. ⌜ r ≡ entry-fault v room ⌝ }
+fn entry_fault(value: u32, room: usize) -> u32
+    ensures { λ r. ⌜ r ≡ entry-fault value room ⌝ }
 {
-    if v % 4 == 0 {
+    if value % 4 == 0 {
         if room == 0 {
             return 4;
         }
@@ -65,23 +65,23 @@ fn entry_fault(v: u32, room: usize) -> u32
     10
 }
 
-// Takes the word v as an entry to the address t.
-fn take_entry(entries: &mut [u64], s: Reading, v: u32, t: u64) -> Reading
-    requires { ⌜ Live s (now entries) × (s .fault ≡ 0) ⌝ }
-    ensures { λ r. ⌜ IsTaken v t s (now (entries .entry)) (now (entries .exit)) r ⌝ }
+// Takes the word `value` as an entry to the address `target`.
+fn take_entry(entries: &mut [u64], reading: Reading, value: u32, target: u64) -> Reading
+    requires { ⌜ Live reading (now entries) × (reading .fault ≡ 0) ⌝ }
+    ensures { λ r. ⌜ IsTaken value target reading (now (entries .entry)) (now (entries .exit)) r ⌝ }
 {
-    let fault = entry_fault(v, s.room);
+    let fault = entry_fault(value, reading.room);
     if fault == 0 {
-        let n = ordered::insert(entries, s.count, 256, t);
+        let n = ordered::insert(entries, reading.count, 256, target);
         return Reading {
             count: n.count,
-            room: s.room - 1,
+            room: reading.room - 1,
             fault: 0,
         };
     }
     Reading {
-        count: s.count,
-        room: s.room,
+        count: reading.count,
+        room: reading.room,
         fault,
     }
 }
@@ -95,22 +95,24 @@ fn read_u32(words: &[u8], at: usize) -> u32
 }
 
 // A word of a table with a size: zero words are passed over.
-fn sized_word(sections: &[u32], entries: &mut [u64], s: Reading, v: u32) -> Reading
-    requires { ⌜ Few (now sections) × Live s (now entries) × (s .fault ≡ 0) ⌝ }
-    ensures { λ r. ⌜ IsStep (rules.sized-entries (seen (now (sections .entry)))) v s (now (entries .entry)) (now (entries .exit)) r ⌝ }
+fn sized_word(sections: &[u32], entries: &mut [u64], reading: Reading, value: u32) -> Reading
+    requires { ⌜ Few (now sections) × Live reading (now entries) × (reading .fault ≡ 0) ⌝ }
+    ensures { λ r.
+        ⌜ IsStep (rules.sized-entries (seen (now (sections .entry)))) value reading (now (entries .entry))
+        (now (entries .exit)) r ⌝ }
 {
-    if v == 0 {
-        return s;
+    if value == 0 {
+        return reading;
     }
-    let t = located(sections, v);
+    let t = located(sections, value);
     if t == 0 {
         return Reading {
-            count: s.count,
-            room: s.room,
+            count: reading.count,
+            room: reading.room,
             fault: 9,
         };
     }
-    take_entry(entries, s, v, t)
+    take_entry(entries, reading, value, t)
 }
 
 // The entries of a table whose words are these; zero words are passed over, and the length is looked at last.
@@ -118,7 +120,8 @@ fn sized_entries(sections: &[u32], words: &[u8], entries: &mut [u64]) -> Table
     requires few { ⌜ Few (now sections) ⌝ }
     requires short { ⌜ length (now words) < 0x1_0000_0000 ⌝ }
     requires clear { ⌜ Column 256 0 (now entries) ⌝ }
-    ensures { λ r. ⌜ IsTable (sized-reading (seen (now (sections .entry))) (now (words .entry))) (now (entries .exit)) r ⌝ }
+    ensures { λ r.
+        ⌜ IsTable (sized-reading (seen (now (sections .entry))) (now (words .entry))) (now (entries .exit)) r ⌝ }
 {
     let mut s = Reading {
         count: 0,
@@ -144,21 +147,21 @@ fn sized_entries(sections: &[u32], words: &[u8], entries: &mut [u64]) -> Table
 }
 
 // Whether an address is inside the function, as far as its end is known.
-fn is_inside(first: u64, past: u64, t: u64) -> bool
-    ensures { λ r. ⌜ r ≡ rules.inside first past t ⌝ }
+fn is_inside(first: u64, past: u64, target: u64) -> bool
+    ensures { λ r. ⌜ r ≡ rules.inside first past target ⌝ }
 {
-    (t != 0) & (first <= t) & ((past == 0) | (t < past))
+    (target != 0) & (first <= target) & ((past == 0) | (target < past))
 }
 
 // A table whose size is what was read.
-fn read_so_far(s: Reading) -> Table
-    requires { ⌜ s .room ≤ 256 ⌝ }
-    ensures { λ r. ⌜ (r .fault ≡ 0) × (r .count ≡ s .count) × (r .size ≡ 4 * (256 - s .room)) ⌝ }
+fn read_so_far(reading: Reading) -> Table
+    requires { ⌜ reading .room ≤ 256 ⌝ }
+    ensures { λ r. ⌜ (r .fault ≡ 0) × (r .count ≡ reading .count) × (r .size ≡ 4 * (256 - reading .room)) ⌝ }
 {
     Table {
         fault: 0,
-        count: s.count,
-        size: (256 - s.room) as u32 * 4,
+        count: reading.count,
+        size: (256 - reading.room) as u32 * 4,
     }
 }
 
@@ -172,7 +175,9 @@ fn unsized_entries(
 ) -> Table
     requires few { ⌜ Few (now sections) ⌝ }
     requires clear { ⌜ Column 256 0 (now entries) ⌝ }
-    ensures { λ r. ⌜ IsTable (unsized-reading (seen (now (sections .entry))) first past (now (words .entry))) (now (entries .exit)) r ⌝ }
+    ensures { λ r.
+        ⌜ IsTable (unsized-reading (seen (now (sections .entry))) first past (now (words .entry))) (now (entries .exit))
+        r ⌝ }
 {
     let mut s = Reading {
         count: 0,
@@ -238,7 +243,9 @@ fn table_of_size(
     requires few { ⌜ Few (now sections) ⌝ }
     requires inside { ⌜ InPart (now bytes) p a ⌝ }
     requires clear { ⌜ Column 256 0 (now entries) ⌝ }
-    ensures { λ r. ⌜ IsTable (table-reading (seen (now (sections .entry))) p (now (bytes .entry)) a size first past) (now (entries .exit)) r ⌝ }
+    ensures { λ r.
+        ⌜ IsTable (table-reading (seen (now (sections .entry))) p (now (bytes .entry)) a size first past)
+        (now (entries .exit)) r ⌝ }
 {
     let from = p.offset + (a - p.base) as usize / 4 * 4;
     if size == 0 {
@@ -254,7 +261,7 @@ pub fn uniq_jump_table_entries(
     sections: &[u32],
     bytes: &[u8],
     objects: &[u32],
-    t: u64,
+    target: u64,
     size: u32,
     first: u64,
     past: u64,
@@ -262,14 +269,19 @@ pub fn uniq_jump_table_entries(
 ) -> Table
     requires few { ⌜ Few (now sections) ⌝ }
     requires passed { ⌜ Passed (now sections) (now bytes) ⌝ }
-    requires table { ⌜ AtTable (now sections) t ⌝ }
+    requires table { ⌜ AtTable (now sections) target ⌝ }
     requires objects { ⌜ KeysAscend (now sections) (now objects) ⌝ }
     requires clear { ⌜ Column 256 0 (now entries) ⌝ }
-    ensures { λ r. ⌜ ((l : Lent) → l .sections ≡ now (sections .entry) → l .bytes ≡ now (bytes .entry) → l .objects ≡ now (objects .entry) → IsTable (rules.jump-table-entries (image l) t size first past) (now (entries .exit)) r) ⌝ }
+    ensures { λ r.
+        ⌜ ((l : Lent) →
+        l .sections ≡ now (sections .entry) →
+        l .bytes ≡ now (bytes .entry) →
+        l .objects ≡ now (objects .entry) →
+        IsTable (rules.jump-table-entries (image l) target size first past) (now (entries .exit)) r) ⌝ }
 {
-    let p = obj::sections::section_of(sections, t);
+    let p = obj::sections::section_of(sections, target);
     if holds_tables(p.kind) {
-        let a = (t % 0x1_0000_0000) as u32;
+        let a = (target % 0x1_0000_0000) as u32;
         let n = first_size(obj::symbols::known_size(sections, objects, a), size);
         return table_of_size(sections, bytes, p, a, n, first, past, entries);
     }

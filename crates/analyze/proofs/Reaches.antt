@@ -21,14 +21,14 @@ use Rattle.rules.proofs.SkipsEnd.{skip-nops-step}
 use Rattle.obj.specs.Lent.{Lent, given, image}
 use Rattle.obj.specs.Sections.{IsCode}
 use Rattle.executor.specs.Bits.{bit}
-use Rattle.lists.specs.View.{view}
+use Rattle.function_slices.specs.View.{view}
 use Rattle.walk.specs.State.{walk-of, place-of, Is}
 use Rattle.walk.specs.declared.Walk.{Walk}
 use Rattle.callback.specs.Lends.{Of}
 use Rattle.callback_around.specs.declared.around.Around.{Around}
 use Rattle.callback.proofs.Lends.{word-of, image-passed, sound}
 use Rattle.analyze.specs.Analysis.{Walks}
-use Rattle.slices.proofs.Loops.{sound-of, aimed-of}
+use Rattle.passes.proofs.Loops.{sound-of, aimed-of}
 
 -- ---- words `nop`
 

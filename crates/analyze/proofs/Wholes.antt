@@ -15,10 +15,10 @@ use Rattle.rules.proofs.Binds.{bind-assoc}
 use Rattle.rules.proofs.Faults.{add-block-start-met}
 use Rattle.executor.specs.Bits.{bit}
 use Rattle.executor.specs.Pending.{pending}
-use Rattle.lists.specs.View as lists
-use Rattle.lists.specs.View.{view, Fit, IsMarked, unless-fault}
-use Rattle.lists.specs.declared.Small.{Small}
-use Rattle.lists.specs.declared.Marked.{Marked}
+use Rattle.function_slices.specs.View as lists
+use Rattle.function_slices.specs.View.{view, Fit, IsMarked, unless-fault}
+use Rattle.function_slices.specs.declared.Small.{Small}
+use Rattle.function_slices.specs.declared.Marked.{Marked}
 use Rattle.walk.specs.State.{walk-of, place-of, faulting, Fits, Going, Is, Listed}
 use Rattle.walk.specs.declared.Walk.{Walk}
 use Rattle.walk.proofs.Answers.{answer-ok, answer-fault, stopped, onward, listed}

@@ -7,8 +7,8 @@ use lib.Dec.{eqb}
 use Rattle.rules.specs.Choice.{if, Answer, ok, fault, _>>=_}
 use Rattle.rules.specs.Step as steps
 use Rattle.rules.specs.Analyze as rules
-use Rattle.lists.specs.View.{view, Fit}
-use Rattle.lists.specs.declared.Small.{Small}
+use Rattle.function_slices.specs.View.{view, Fit}
+use Rattle.function_slices.specs.declared.Small.{Small}
 use Rattle.walk.specs.declared.Walk.{Walk}
 use Rattle.callback.specs.Lends.{Of}
 use Rattle.callback_around.specs.declared.around.Around.{Around}

@@ -8,17 +8,18 @@ ghost use Rattle.rules.specs.Blocks.{last-end};
 ghost use Rattle.rules.specs.Step as steps;
 ghost use Rattle.rules.specs.Analyze as rules;
 ghost use Rattle.executor.specs.Bits.{bit, VISITED};
-ghost use Rattle.lists.specs.View.{view, Fit};
+ghost use Rattle.function_slices.specs.View.{view, Fit};
 ghost use Rattle.walk.specs.State.{walk-of, Going, Is};
 ghost use Rattle.callback.specs.Lends.{LendsAll, Of};
 ghost use Rattle.run.specs.Steps.{Bits};
 ghost use Rattle.analyze.specs.Analysis.{Walks, passes, walk-and-passes, begun, IsAnalyzed};
-use lists::places;
+use function_slices::places;
 
 // Behind the words `nop` from addr, as far as the function's end. A `nop` lies in code, so that four more does not overflow.
 fn skip_nops(bytes: &[u8], a: callback::around::Around, addr: u64) -> u64
     requires { ⌜ Walks (now bytes) a ⌝ }
-    ensures { λ r. ⌜ ((s f x n : List ℕ) (e : steps.Around) → Of s (now (bytes .entry)) f x n a e → r ≡ rules.skip-nops e addr) ⌝ }
+    ensures { λ r.
+        ⌜ ((s f x n : List ℕ) (e : steps.Around) → Of s (now (bytes .entry)) f x n a e → r ≡ rules.skip-nops e addr) ⌝ }
 {
     let code = a.code;
     let mut at = addr;
@@ -35,30 +36,43 @@ fn skip_nops(bytes: &[u8], a: callback::around::Around, addr: u64) -> u64
 // Where the last block ends, nops skipped.
 fn next_part(
     bytes: &[u8],
-    k: &[u64],
-    v: &[u64],
+    keys: &[u64],
+    values: &[u64],
     a: callback::around::Around,
-    s: lists::Small,
+    slices: function_slices::Small,
 ) -> u64
-    requires { ⌜ Walks (now bytes) a × Fit (now k) (now v) s ⌝ }
-    ensures { λ r. ⌜ ((se f x n : List ℕ) (e : steps.Around) → Of se (now (bytes .entry)) f x n a e → r ≡ rules.skip-nops e (last-end (view (now (k .entry)) (now (v .entry)) s .blocks))) ⌝ }
+    requires { ⌜ Walks (now bytes) a × Fit (now keys) (now values) slices ⌝ }
+    ensures { λ r.
+        ⌜ ((se f x n : List ℕ) (e : steps.Around) →
+        Of se (now (bytes .entry)) f x n a e →
+        r ≡ rules.skip-nops e (last-end (view (now (keys .entry)) (now (values .entry)) slices .blocks))) ⌝ }
 {
-    let end = lists::last_end(k, v, s);
+    let end = function_slices::last_end(keys, values, slices);
     skip_nops(bytes, a, end)
 }
 
 // Whether words are left before the known end.
-fn is_short(bytes: &[u8], k: &[u64], v: &[u64], a: callback::around::Around, w: walk::Walk) -> bool
-    requires { ⌜ Walks (now bytes) a × Fit (now k) (now v) (w .small) ⌝ }
-    ensures { λ r. ⌜ ((s f x n : List ℕ) (e : steps.Around) → Of s (now (bytes .entry)) f x n a e → (vis : ℕ → Bool) → r ≡ rules.is-short e (walk-of vis (now (k .entry)) (now (v .entry)) w)) ⌝ }
+fn is_short(
+    bytes: &[u8],
+    keys: &[u64],
+    values: &[u64],
+    a: callback::around::Around,
+    w: walk::Walk,
+) -> bool
+    requires { ⌜ Walks (now bytes) a × Fit (now keys) (now values) (w .small) ⌝ }
+    ensures { λ r.
+        ⌜ ((s f x n : List ℕ) (e : steps.Around) →
+        Of s (now (bytes .entry)) f x n a e →
+        (vis : ℕ → Bool) →
+        r ≡ rules.is-short e (walk-of vis (now (keys .entry)) (now (values .entry)) w)) ⌝ }
 {
-    if slices::is_nowhere(w) {
+    if passes::is_nowhere(w) {
         return false;
     }
-    if lists::last_end(k, v, w.small) == 0 {
+    if function_slices::last_end(keys, values, w.small) == 0 {
         return false;
     }
-    next_part(bytes, k, v, a, w.small) < a.end
+    next_part(bytes, keys, values, a, w.small) < a.end
 }
 
 // One pass from where the last block ends.
@@ -70,18 +84,25 @@ fn reach_step(
     objects: &[u32],
     known: &[u64],
     visited: &mut [u32; executor::VISITED],
-    k: &mut [u64; places::KEYS],
-    v: &mut [u64; places::VALUES],
+    keys: &mut [u64; places::KEYS],
+    values: &mut [u64; places::VALUES],
     a: callback::around::Around,
     w: walk::Walk,
 ) -> walk::Walk
     requires lends { ⌜ LendsAll (now sections) (now bytes) (now outcomes) (now functions) (now objects) (now known) a ⌝ }
-    requires going { ⌜ Going (now k) (now v) w ⌝ }
+    requires going { ⌜ Going (now keys) (now values) w ⌝ }
     requires bits { ⌜ length (now visited) ≡ VISITED ⌝ }
-    ensures { λ r. ⌜ Bits (now (visited .exit)) × ((e : steps.Around) (o : Of (now (sections .entry)) (now (bytes .entry)) (now (functions .entry)) (now (objects .entry)) (now (known .entry)) a e) → o .lent .outcomes ≡ now (outcomes .entry) → Is (rules.reach-step e (walk-of (bit (now (visited .entry))) (now (k .entry)) (now (v .entry)) w)) (bit (now (visited .exit))) (now (k .exit)) (now (v .exit)) r) ⌝ }
+    ensures { λ r.
+        ⌜ Bits (now (visited .exit)) ×
+        ((e : steps.Around)
+        (o : Of (now (sections .entry)) (now (bytes .entry)) (now (functions .entry)) (now (objects .entry))
+        (now (known .entry)) a e) →
+        o .lent .outcomes ≡ now (outcomes .entry) →
+        Is (rules.reach-step e (walk-of (bit (now (visited .entry))) (now (keys .entry)) (now (values .entry)) w))
+        (bit (now (visited .exit))) (now (keys .exit)) (now (values .exit)) r) ⌝ }
 {
-    let to = next_part(bytes, k, v, a, w.small);
-    slices::run_pass(
+    let to = next_part(bytes, keys, values, a, w.small);
+    passes::run_pass(
         sections,
         bytes,
         outcomes,
@@ -89,8 +110,8 @@ fn reach_step(
         objects,
         known,
         visited,
-        k,
-        v,
+        keys,
+        values,
         a,
         w,
         to,
@@ -106,18 +127,25 @@ fn reach_end(
     objects: &[u32],
     known: &[u64],
     visited: &mut [u32; executor::VISITED],
-    k: &mut [u64; places::KEYS],
-    v: &mut [u64; places::VALUES],
+    keys: &mut [u64; places::KEYS],
+    values: &mut [u64; places::VALUES],
     a: callback::around::Around,
     w: walk::Walk,
 ) -> walk::Walk
     requires lends { ⌜ LendsAll (now sections) (now bytes) (now outcomes) (now functions) (now objects) (now known) a ⌝ }
-    requires going { ⌜ Going (now k) (now v) w ⌝ }
+    requires going { ⌜ Going (now keys) (now values) w ⌝ }
     requires bits { ⌜ length (now visited) ≡ VISITED ⌝ }
-    ensures { λ r. ⌜ Bits (now (visited .exit)) × ((e : steps.Around) (o : Of (now (sections .entry)) (now (bytes .entry)) (now (functions .entry)) (now (objects .entry)) (now (known .entry)) a e) → o .lent .outcomes ≡ now (outcomes .entry) → Is (rules.reach-end e (walk-of (bit (now (visited .entry))) (now (k .entry)) (now (v .entry)) w)) (bit (now (visited .exit))) (now (k .exit)) (now (v .exit)) r) ⌝ }
+    ensures { λ r.
+        ⌜ Bits (now (visited .exit)) ×
+        ((e : steps.Around)
+        (o : Of (now (sections .entry)) (now (bytes .entry)) (now (functions .entry)) (now (objects .entry))
+        (now (known .entry)) a e) →
+        o .lent .outcomes ≡ now (outcomes .entry) →
+        Is (rules.reach-end e (walk-of (bit (now (visited .entry))) (now (keys .entry)) (now (values .entry)) w))
+        (bit (now (visited .exit))) (now (keys .exit)) (now (values .exit)) r) ⌝ }
 {
     let mut r = w;
-    while is_short(bytes, k, v, a, r) {
+    while is_short(bytes, keys, values, a, r) {
         r = reach_step(
             sections,
             bytes,
@@ -126,8 +154,8 @@ fn reach_end(
             objects,
             known,
             visited,
-            k,
-            v,
+            keys,
+            values,
             a,
             r,
         );
@@ -147,17 +175,24 @@ fn run_passes(
     objects: &[u32],
     known: &[u64],
     visited: &mut [u32; executor::VISITED],
-    k: &mut [u64; places::KEYS],
-    v: &mut [u64; places::VALUES],
+    keys: &mut [u64; places::KEYS],
+    values: &mut [u64; places::VALUES],
     a: callback::around::Around,
     w: walk::Walk,
 ) -> walk::Walk
     requires lends { ⌜ LendsAll (now sections) (now bytes) (now outcomes) (now functions) (now objects) (now known) a ⌝ }
-    requires going { ⌜ Going (now k) (now v) w ⌝ }
+    requires going { ⌜ Going (now keys) (now values) w ⌝ }
     requires bits { ⌜ length (now visited) ≡ VISITED ⌝ }
-    ensures { λ r. ⌜ Bits (now (visited .exit)) × ((e : steps.Around) (o : Of (now (sections .entry)) (now (bytes .entry)) (now (functions .entry)) (now (objects .entry)) (now (known .entry)) a e) → o .lent .outcomes ≡ now (outcomes .entry) → Is (passes e (walk-of (bit (now (visited .entry))) (now (k .entry)) (now (v .entry)) w)) (bit (now (visited .exit))) (now (k .exit)) (now (v .exit)) r) ⌝ }
+    ensures { λ r.
+        ⌜ Bits (now (visited .exit)) ×
+        ((e : steps.Around)
+        (o : Of (now (sections .entry)) (now (bytes .entry)) (now (functions .entry)) (now (objects .entry))
+        (now (known .entry)) a e) →
+        o .lent .outcomes ≡ now (outcomes .entry) →
+        Is (passes e (walk-of (bit (now (visited .entry))) (now (keys .entry)) (now (values .entry)) w))
+        (bit (now (visited .exit))) (now (keys .exit)) (now (values .exit)) r) ⌝ }
 {
-    let r = slices::connect(
+    let r = passes::connect(
         sections,
         bytes,
         outcomes,
@@ -165,8 +200,8 @@ fn run_passes(
         objects,
         known,
         visited,
-        k,
-        v,
+        keys,
+        values,
         a,
         w,
     );
@@ -181,8 +216,8 @@ fn run_passes(
         objects,
         known,
         visited,
-        k,
-        v,
+        keys,
+        values,
         a,
         r,
     )
@@ -197,18 +232,25 @@ fn walk_and_passes(
     objects: &[u32],
     known: &[u64],
     visited: &mut [u32; executor::VISITED],
-    k: &mut [u64; places::KEYS],
-    v: &mut [u64; places::VALUES],
+    keys: &mut [u64; places::KEYS],
+    values: &mut [u64; places::VALUES],
     a: callback::around::Around,
     w: walk::Walk,
     addr: u64,
 ) -> walk::Walk
     requires lends { ⌜ LendsAll (now sections) (now bytes) (now outcomes) (now functions) (now objects) (now known) a ⌝ }
-    requires going { ⌜ Going (now k) (now v) w ⌝ }
+    requires going { ⌜ Going (now keys) (now values) w ⌝ }
     requires bits { ⌜ length (now visited) ≡ VISITED ⌝ }
-    ensures { λ r. ⌜ Bits (now (visited .exit)) × ((e : steps.Around) (o : Of (now (sections .entry)) (now (bytes .entry)) (now (functions .entry)) (now (objects .entry)) (now (known .entry)) a e) → o .lent .outcomes ≡ now (outcomes .entry) → Is (walk-and-passes e addr (walk-of (bit (now (visited .entry))) (now (k .entry)) (now (v .entry)) w)) (bit (now (visited .exit))) (now (k .exit)) (now (v .exit)) r) ⌝ }
+    ensures { λ r.
+        ⌜ Bits (now (visited .exit)) ×
+        ((e : steps.Around)
+        (o : Of (now (sections .entry)) (now (bytes .entry)) (now (functions .entry)) (now (objects .entry))
+        (now (known .entry)) a e) →
+        o .lent .outcomes ≡ now (outcomes .entry) →
+        Is (walk-and-passes e addr (walk-of (bit (now (visited .entry))) (now (keys .entry)) (now (values .entry)) w))
+        (bit (now (visited .exit))) (now (keys .exit)) (now (values .exit)) r) ⌝ }
 {
-    let r = slices::walk_from(
+    let r = passes::walk_from(
         sections,
         bytes,
         outcomes,
@@ -216,8 +258,8 @@ fn walk_and_passes(
         objects,
         known,
         visited,
-        k,
-        v,
+        keys,
+        values,
         a,
         w,
         addr,
@@ -233,8 +275,8 @@ fn walk_and_passes(
         objects,
         known,
         visited,
-        k,
-        v,
+        keys,
+        values,
         a,
         r,
     )
@@ -242,23 +284,26 @@ fn walk_and_passes(
 
 // A function's lists, and whether there is a function.
 pub struct Analyzed {
-    pub small: lists::Small,
+    pub small: function_slices::Small,
     pub found: bool,
 }
 
 // 11 where a block is open at the end of a walk that met a function.
-fn analyze_ends(k: &[u64], v: &[u64], w: walk::Walk) -> Analyzed
-    requires { ⌜ Going (now k) (now v) w ⌝ }
-    ensures { λ r. ⌜ ((e : steps.Around) (vis : ℕ → Bool) → IsAnalyzed (rules.analyze-ends e (walk-of vis (now (k .entry)) (now (v .entry)) w)) (now (k .entry)) (now (v .entry)) r) ⌝ }
+fn analyze_ends(keys: &[u64], values: &[u64], w: walk::Walk) -> Analyzed
+    requires { ⌜ Going (now keys) (now values) w ⌝ }
+    ensures { λ r.
+        ⌜ ((e : steps.Around) (vis : ℕ → Bool) →
+        IsAnalyzed (rules.analyze-ends e (walk-of vis (now (keys .entry)) (now (values .entry)) w)) (now (keys .entry))
+        (now (values .entry)) r) ⌝ }
 {
     let mut small = w.small;
-    if slices::is_nowhere(w) {
+    if passes::is_nowhere(w) {
         return Analyzed {
             small,
             found: false,
         };
     }
-    if lists::any_open(k, v, w.small) {
+    if function_slices::any_open(keys, values, w.small) {
         small.fault = 11;
         return Analyzed {
             small,
@@ -269,11 +314,11 @@ fn analyze_ends(k: &[u64], v: &[u64], w: walk::Walk) -> Analyzed
 }
 
 // A walk that has not begun.
-fn new_walk(s: lists::Small) -> walk::Walk
-    ensures { λ r. ⌜ r ≡ begun s ⌝ }
+fn new_walk(slices: function_slices::Small) -> walk::Walk
+    ensures { λ r. ⌜ r ≡ begun slices ⌝ }
 {
     walk::Walk {
-        small: s,
+        small: slices,
         pending: 0,
         fresh: false,
         place: 0,
@@ -290,15 +335,21 @@ fn analyze_walk(
     functions: &[u32],
     objects: &[u32],
     known: &[u64],
-    k: &mut [u64; places::KEYS],
-    v: &mut [u64; places::VALUES],
+    keys: &mut [u64; places::KEYS],
+    values: &mut [u64; places::VALUES],
     a: callback::around::Around,
-    s: lists::Small,
+    slices: function_slices::Small,
     addr: u64,
 ) -> Analyzed
     requires lends { ⌜ LendsAll (now sections) (now bytes) (now outcomes) (now functions) (now objects) (now known) a ⌝ }
-    requires fit { ⌜ Fit (now k) (now v) s × (s .fault ≡ 0) ⌝ }
-    ensures { λ r. ⌜ ((e : steps.Around) (o : Of (now (sections .entry)) (now (bytes .entry)) (now (functions .entry)) (now (objects .entry)) (now (known .entry)) a e) → o .lent .outcomes ≡ now (outcomes .entry) → IsAnalyzed (rules.analyze-walk e addr (view (now (k .entry)) (now (v .entry)) s)) (now (k .exit)) (now (v .exit)) r) ⌝ }
+    requires fit { ⌜ Fit (now keys) (now values) slices × (slices .fault ≡ 0) ⌝ }
+    ensures { λ r.
+        ⌜ ((e : steps.Around)
+        (o : Of (now (sections .entry)) (now (bytes .entry)) (now (functions .entry)) (now (objects .entry))
+        (now (known .entry)) a e) →
+        o .lent .outcomes ≡ now (outcomes .entry) →
+        IsAnalyzed (rules.analyze-walk e addr (view (now (keys .entry)) (now (values .entry)) slices))
+        (now (keys .exit)) (now (values .exit)) r) ⌝ }
 {
     let mut visited = executor::none_visited();
     let w = walk_and_passes(
@@ -309,10 +360,10 @@ fn analyze_walk(
         objects,
         known,
         &mut visited.bits,
-        k,
-        v,
+        keys,
+        values,
         a,
-        new_walk(s),
+        new_walk(slices),
         addr,
     );
     let small = w.small;
@@ -322,7 +373,7 @@ fn analyze_walk(
             found: false,
         };
     }
-    analyze_ends(k, v, w)
+    analyze_ends(keys, values, w)
 }
 
 // From the start addr, if that is a new block.
@@ -333,17 +384,23 @@ pub fn analyze(
     functions: &[u32],
     objects: &[u32],
     known: &[u64],
-    k: &mut [u64; places::KEYS],
-    v: &mut [u64; places::VALUES],
+    keys: &mut [u64; places::KEYS],
+    values: &mut [u64; places::VALUES],
     a: callback::around::Around,
-    s: lists::Small,
+    slices: function_slices::Small,
     addr: u64,
 ) -> Analyzed
     requires lends { ⌜ LendsAll (now sections) (now bytes) (now outcomes) (now functions) (now objects) (now known) a ⌝ }
-    requires fit { ⌜ Fit (now k) (now v) s × (s .fault ≡ 0) ⌝ }
-    ensures { λ r. ⌜ ((e : steps.Around) (o : Of (now (sections .entry)) (now (bytes .entry)) (now (functions .entry)) (now (objects .entry)) (now (known .entry)) a e) → o .lent .outcomes ≡ now (outcomes .entry) → IsAnalyzed (rules.analyze e addr (view (now (k .entry)) (now (v .entry)) s)) (now (k .exit)) (now (v .exit)) r) ⌝ }
+    requires fit { ⌜ Fit (now keys) (now values) slices × (slices .fault ≡ 0) ⌝ }
+    ensures { λ r.
+        ⌜ ((e : steps.Around)
+        (o : Of (now (sections .entry)) (now (bytes .entry)) (now (functions .entry)) (now (objects .entry))
+        (now (known .entry)) a e) →
+        o .lent .outcomes ≡ now (outcomes .entry) →
+        IsAnalyzed (rules.analyze e addr (view (now (keys .entry)) (now (values .entry)) slices)) (now (keys .exit))
+        (now (values .exit)) r) ⌝ }
 {
-    let m = lists::add_block_start(k, v, s, addr);
+    let m = function_slices::add_block_start(keys, values, slices, addr);
     let small = m.small;
     if small.fault != 0 {
         return Analyzed {
@@ -359,8 +416,8 @@ pub fn analyze(
             functions,
             objects,
             known,
-            k,
-            v,
+            keys,
+            values,
             a,
             small,
             addr,

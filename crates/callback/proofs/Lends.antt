@@ -35,8 +35,8 @@ use Rattle.obj.proofs.Alike.{alike-seen}
 use Rattle.analysis.specs.Tables as tables
 use Rattle.prologues.specs.Code.{CodeWords}
 use Rattle.known.specs.Table.{Kept, Knows}
-use Rattle.lists.specs.View.{view, Fit}
-use Rattle.lists.specs.declared.Small.{Small}
+use Rattle.function_slices.specs.View.{view, Fit}
+use Rattle.function_slices.specs.declared.Small.{Small}
 use Rattle.walk.specs.State.{Low, Listed}
 use Rattle.callback_around.specs.Around.{IsCodeOf, Alike, Inside}
 use Rattle.callback.specs.Lends.{Of, Lends, At, Aims}

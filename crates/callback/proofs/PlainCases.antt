@@ -14,12 +14,12 @@ use Rattle.rules.specs.Sequences as sequences
 use Rattle.rules.specs.Image as images
 use Rattle.rules.specs.Image.{Image, code-section}
 use Rattle.rules.specs.Ordered.{self, without}
-use Rattle.rules.specs.Slices.{Slices, discard-possible, with-returns, with-possible}
+use Rattle.rules.specs.Slices.{Slices, discard-possible-block, with-returns, with-possible-blocks}
 use Rattle.rules.specs.Step as rules
 use Rattle.rules.proofs.Tests.{and-left, and-right}
-use Rattle.lists.specs.View as lists
-use Rattle.lists.specs.View.{view, Fit}
-use Rattle.lists.specs.declared.Small.{Small}
+use Rattle.function_slices.specs.View as lists
+use Rattle.function_slices.specs.View.{view, Fit}
+use Rattle.function_slices.specs.declared.Small.{Small}
 use Rattle.walk.specs.State.{walk-of, with-small, with-place, faulting, Going, Is, Listed}
 use Rattle.walk.specs.declared.Walk.{Walk}
 use Rattle.walk.proofs.Answers.{is-fault}
@@ -34,7 +34,7 @@ use Rattle.obj.specs.declared.sections.Code.{Code}
 use Rattle.obj.specs.declared.outcomes.Told.{Told}
 use Rattle.obj.specs.declared.outcomes.Outcome.{Outcome}
 use Rattle.callback.proofs.WordCases.{with-lists, some-fault, no-fault, some-known, none-known, word-known, word-own}
-use Rattle.lists.specs.Places.{POSSIBLE, AT-POSSIBLE}
+use Rattle.function_slices.specs.Places.{POSSIBLE, AT-POSSIBLE}
 
 -- ---- by the primary opcode
 
@@ -139,17 +139,17 @@ module _ (im : Image) (addr w : ℕ) (inside : images.contains (code-section im)
       by true = unfold if in epilogue-kept s
       by false = unfold if in rw (prologue-kept s) (epilogue-kept s)
 
-  same-fields : (s : Slices) (c r : Bool) (p : List ℕ) → c ≡ s .conditional-blr → r ≡ s .rfi → p ≡ s .possible → with-possible (with-returns s c r) p ≡ s
+  same-fields : (s : Slices) (c r : Bool) (p : List ℕ) → c ≡ s .conditional-blr → r ≡ s .rfi → p ≡ s .possible-blocks → with-possible-blocks (with-returns s c r) p ≡ s
   same-fields s c r p a b d = rw (a, b, d) refl
 
-  note-kept : (s : Slices) → s .possible ≡ [] → rules.note-word im addr s ≡ s
-  unfolding rules.note-word discard-possible
+  note-kept : (s : Slices) → s .possible-blocks ≡ [] → rules.note-word im addr s ≡ s
+  unfolding rules.note-word discard-possible-block
   note-kept s e =
       same-fields s _ _ _ (ap (λ (y : ℕ). s .conditional-blr || words.is-conditional-blr y) (sym is-w) ∙ ap (λ (b : Bool). s .conditional-blr || b) (no-blr w h) ∙ or-false (s .conditional-blr))
       (ap (λ (y : ℕ). s .rfi || words.is-rfi y) (sym is-w) ∙ ap (λ (b : Bool). s .rfi || b) (no-rfi w h) ∙ or-false (s .rfi)) (ap (without self addr) e ∙ sym e)
 
   module _ (k v : List ℕ) (s : Small) (f : Fit k v s × (s .fault ≡ 0)) where
-    pub plain-noted : s .possible ≡ 0 → IsNoted (noted im addr (view k v s)) k k v (record { small = s; fault = 0 })
+    pub plain-noted : s .«possible_blocks» ≡ 0 → IsNoted (noted im addr (view k v s)) k k v (record { small = s; fault = 0 })
     unfolding noted _>>=_ if
     plain-noted z =
         record {
@@ -219,7 +219,7 @@ module _ (l : Lent) (b : List ℕ) (c : Code) (addr word : ℕ) (mark : Bool) (q
   inside-code =
       rw (← q .code .base, ← q .code .size, le-leb (c .base) (address-of addr) (at .above), lt-ltb (address-of addr) (c .base + c .size) (at .below)) refl
 
-  pub note-plain : (p : Bool) (k v : List ℕ) (s : Small) → p ≡ plain word → Fit k v s × (s .fault ≡ 0) → (p && eqb (s .possible) 0) ≡ true → IsNoted (noted (image l) addr (view k v s)) k k v (record { small = s; fault = 0 })
+  pub note-plain : (p : Bool) (k v : List ℕ) (s : Small) → p ≡ plain word → Fit k v s × (s .fault ≡ 0) → (p && eqb (s .«possible_blocks») 0) ≡ true → IsNoted (noted (image l) addr (view k v s)) k k v (record { small = s; fault = 0 })
   note-plain p k v s e f h =
       plain-noted (image l) addr word inside-code (q .is-word) (sym e ∙ and-left _ _ h) k v s f (eqb-true _ _ (and-right p _ h))
 

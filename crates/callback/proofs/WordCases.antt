@@ -12,7 +12,7 @@ use Rattle.rules.specs.Check.{check-image}
 use Rattle.rules.specs.Image as images
 use Rattle.rules.specs.Image.{Image, locate}
 use Rattle.rules.specs.Words.{is-rfi, is-conditional-blr}
-use Rattle.rules.specs.Slices.{Slices, discard-possible}
+use Rattle.rules.specs.Slices.{Slices, discard-possible-block}
 use Rattle.rules.specs.Step as rules
 use Rattle.obj.specs.Lent.{Lent, given, image}
 use Rattle.obj.specs.Sections.{IsCode}
@@ -22,9 +22,9 @@ use Rattle.obj.specs.declared.outcomes.Branch.{Branch}
 use Rattle.obj.specs.declared.outcomes.Told.{Told}
 use Rattle.obj.specs.declared.outcomes.Outcome.{Outcome}
 use Rattle.obj.specs.declared.outcomes.Outcome.the-variants.{GoOn, Illegal, Unknown, Return, Jump, JumpTable, Branches}
-use Rattle.lists.specs.View as lists
-use Rattle.lists.specs.View.{view, Fit}
-use Rattle.lists.specs.declared.Small.{Small}
+use Rattle.function_slices.specs.View as lists
+use Rattle.function_slices.specs.View.{view, Fit}
+use Rattle.function_slices.specs.declared.Small.{Small}
 use Rattle.prologues.specs.Code.{CodeWords}
 use Rattle.walk.specs.State.{walk-of, place-of, with-small, with-place, Going, Is, Listed}
 use Rattle.walk.specs.declared.Walk.{Walk}
@@ -37,19 +37,19 @@ use Rattle.callback.specs.Noted.{stops, stopped-by}
 use Rattle.callback.specs.Lends.{Of, kind}
 use Rattle.callback_around.specs.declared.around.Around.{Around}
 use Rattle.callback_around.proofs.Places.{placed-same, placed-nowhere}
-use Rattle.lists.specs.Places.{AT-PENDING}
+use Rattle.function_slices.specs.Places.{AT-PENDING}
 
 -- ---- returns noted
 
 module _ (s : Small) (c i : Bool) where
   -- with what this word is
   abbrev pub returning : Small
-  returning = record { blocks = s .blocks; ways = s .ways; references = s .references; tables = s .tables; possible = s .possible; prologue = s .prologue; epilogue = s .epilogue; conditional = s .conditional || c; rfi = s .rfi || i; load = s .load; finalized = s .finalized; fault = s .fault }
+  returning = record { blocks = s .blocks; branches = s .branches; «function_references» = s .«function_references»; «jump_table_references» = s .«jump_table_references»; «possible_blocks» = s .«possible_blocks»; prologue = s .prologue; epilogue = s .epilogue; conditional = s .conditional || c; rfi = s .rfi || i; load = s .load; finalized = s .finalized; fault = s .fault }
 
   pub fits-still : (k v : List ℕ) → Fit k v s → Fit k v returning
   fits-still k v f = refit k v s returning refl refl refl refl refl f
 
-  pub noted : (im : Image) (k v k′ v′ : List ℕ) (r : Small) (addr w : ℕ) → c ≡ is-conditional-blr w → i ≡ is-rfi w → w ≡ images.word im (address-of addr) → lists.Is (ok (discard-possible addr (view k v returning))) k k′ v′ r → lists.Is (ok (rules.note-word im addr (view k v s))) k k′ v′ r
+  pub noted : (im : Image) (k v k′ v′ : List ℕ) (r : Small) (addr w : ℕ) → c ≡ is-conditional-blr w → i ≡ is-rfi w → w ≡ images.word im (address-of addr) → lists.Is (ok (discard-possible-block addr (view k v returning))) k k′ v′ r → lists.Is (ok (rules.note-word im addr (view k v s))) k k′ v′ r
   unfolding rules.note-word view
   noted im k v k′ v′ r addr w e f q h = rw (← q, ← e, ← f) h
 

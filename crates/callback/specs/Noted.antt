@@ -16,9 +16,9 @@ use Rattle.rules.specs.Step as rules
 use Rattle.obj.specs.Lent.{Lent, given, image}
 use Rattle.obj.specs.Sections.{IsCode}
 use Rattle.obj.specs.declared.sections.Code.{Code}
-use Rattle.lists.specs.View.{view, Fit}
+use Rattle.function_slices.specs.View.{view, Fit}
 use Rattle.callback.specs.declared.words.Noted.{Noted}
-use Rattle.lists.specs.Places.{AT-PENDING}
+use Rattle.function_slices.specs.Places.{AT-PENDING}
 
 -- a word by whose primary opcode it begins no sequence, loads no r1 and is no return
 unfoldable pub plain : ℕ → Bool

@@ -11,8 +11,8 @@ ghost use Rattle.rules.specs.Step as rules;
 ghost use Rattle.obj.specs.Lent.{Lent, given, image};
 ghost use Rattle.obj.specs.Sections.{IsCode, InBytes};
 ghost use Rattle.obj.specs.Outcomes.{outcome-for, told-for};
-ghost use Rattle.lists.specs.View as lists;
-ghost use Rattle.lists.specs.View.{view, Fit};
+ghost use Rattle.function_slices.specs.View as lists;
+ghost use Rattle.function_slices.specs.View.{view, Fit};
 ghost use Rattle.executor.specs.Bits.{bit};
 ghost use Rattle.known.specs.Table.{Kept, Knows};
 ghost use Rattle.walk.specs.State.{walk-of, Going, Is, Listed};
@@ -28,13 +28,18 @@ use callback_jumps::jumps::do_illegal;
 use callback_jumps::jumps::do_jump;
 use callback_jumps::jumps::do_unknown;
 use callback_tables::tables::do_table;
-use lists::places;
+use function_slices::places;
 
 // The code word at an address of the code section.
 fn word_in(bytes: &[u8], code: obj::sections::Code, addr: u64) -> u32
     requires bytes { ⌜ InBytes (now bytes) code ⌝ }
     requires at { ⌜ At code addr ⌝ }
-    ensures { λ r. ⌜ ((l : Lent) → l .bytes ≡ now (bytes .entry) → IsCode l code → check-image (given l) ≡ true → r ≡ images.word (image l) (address-of addr)) ⌝ }
+    ensures { λ r.
+        ⌜ ((l : Lent) →
+        l .bytes ≡ now (bytes .entry) →
+        IsCode l code →
+        check-image (given l) ≡ true →
+        r ≡ images.word (image l) (address-of addr)) ⌝ }
 {
     let from = (addr % 0x1_0000_0000) as u32 - code.base;
     ppc::words::word_at(bytes, code.offset + from as usize / 4 * 4)
@@ -44,36 +49,49 @@ fn word_in(bytes: &[u8], code: obj::sections::Code, addr: u64) -> u32
 fn check_word(
     bytes: &[u8],
     code: obj::sections::Code,
-    s: lists::Small,
+    slices: function_slices::Small,
     addr: u64,
     word: u32,
     mark: bool,
-) -> lists::Small
+) -> function_slices::Small
     requires bytes { ⌜ InBytes (now bytes) code ⌝ }
     requires at { ⌜ At code addr ⌝ }
-    requires fine { ⌜ s .fault ≡ 0 ⌝ }
-    ensures { λ r. ⌜ ((l : Lent) (k v : List ℕ) → l .bytes ≡ now (bytes .entry) → IsCode l code → check-image (given l) ≡ true → mark ≡ images.told-at (image l) addr .mark → word ≡ images.word (image l) (address-of addr) → Fit k v s → Listed (rules.check-sequences (image l) addr (view k v s)) k v r) ⌝ }
+    requires fine { ⌜ slices .fault ≡ 0 ⌝ }
+    ensures { λ r.
+        ⌜ ((l : Lent) (k v : List ℕ) →
+        l .bytes ≡ now (bytes .entry) →
+        IsCode l code →
+        check-image (given l) ≡ true →
+        mark ≡ images.told-at (image l) addr .mark →
+        word ≡ images.word (image l) (address-of addr) →
+        Fit k v slices →
+        Listed (rules.check-sequences (image l) addr (view k v slices)) k v r) ⌝ }
 {
     let from = code.offset;
     let to = code.offset + code.size as usize;
-    prologues::check_sequences(&bytes[from..to], code.base, s, addr, word, mark)
+    prologues::check_sequences(&bytes[from..to], code.base, slices, addr, word, mark)
 }
 
 // Returns are noted, and the word is no longer a possible block.
 fn note_word(
-    k: &mut [u64; places::KEYS],
-    v: &mut [u64; places::VALUES],
-    s: lists::Small,
+    keys: &mut [u64; places::KEYS],
+    values: &mut [u64; places::VALUES],
+    slices: function_slices::Small,
     addr: u64,
     word: u32,
-) -> lists::Small
-    requires { ⌜ Fit (now k) (now v) s × (s .fault ≡ 0) ⌝ }
-    ensures { λ r. ⌜ (Fit (now (k .exit)) (now (v .exit)) r × (r .fault ≡ 0)) × ((im : images.Image) → word ≡ images.word im (address-of addr) → lists.Is (ok (rules.note-word im addr (view (now (k .entry)) (now (v .entry)) s))) (now (k .entry)) (now (k .exit)) (now (v .exit)) r) ⌝ }
+) -> function_slices::Small
+    requires { ⌜ Fit (now keys) (now values) slices × (slices .fault ≡ 0) ⌝ }
+    ensures { λ r.
+        ⌜ (Fit (now (keys .exit)) (now (values .exit)) r × (r .fault ≡ 0)) ×
+        ((im : images.Image) →
+        word ≡ images.word im (address-of addr) →
+        lists.Is (ok (rules.note-word im addr (view (now (keys .entry)) (now (values .entry)) slices)))
+        (now (keys .entry)) (now (keys .exit)) (now (values .exit)) r) ⌝ }
 {
-    let mut t = s;
-    t.conditional = s.conditional | ppc::words::is_conditional_blr(word);
-    t.rfi = s.rfi | ppc::words::is_rfi(word);
-    lists::discard_possible(k, v, t, addr)
+    let mut t = slices;
+    t.conditional = slices.conditional | ppc::words::is_conditional_blr(word);
+    t.rfi = slices.rfi | ppc::words::is_rfi(word);
+    function_slices::discard_possible_block(keys, values, t, addr)
 }
 
 // A word by whose primary opcode it begins no sequence, loads no r1 and is no return: most words are such.
@@ -86,39 +104,46 @@ fn is_plain(word: u32) -> bool
 
 // What is noted of a word before it does what it does: the counts, without the fault of its sequence tests, and that fault, 0 for none.
 struct Noted {
-    small: lists::Small,
+    small: function_slices::Small,
     fault: u32,
 }
 
 // Notes a word. Nothing is copied for a plain one.
 fn note(
     bytes: &[u8],
-    k: &mut [u64; places::KEYS],
-    v: &mut [u64; places::VALUES],
+    keys: &mut [u64; places::KEYS],
+    values: &mut [u64; places::VALUES],
     code: obj::sections::Code,
-    s: lists::Small,
+    slices: function_slices::Small,
     addr: u64,
     word: u32,
     mark: bool,
 ) -> Noted
     requires bytes { ⌜ InBytes (now bytes) code ⌝ }
     requires at { ⌜ At code addr ⌝ }
-    requires fits { ⌜ Fit (now k) (now v) s × (s .fault ≡ 0) ⌝ }
+    requires fits { ⌜ Fit (now keys) (now values) slices × (slices .fault ≡ 0) ⌝ }
     requires meets { ⌜ Notes (now bytes) code addr word mark ⌝ }
-    ensures { λ r. ⌜ ((l : Lent) → Noting l (now (bytes .entry)) code addr word mark → IsNoted (noted (image l) addr (view (now (k .entry)) (now (v .entry)) s)) (now (k .entry)) (now (k .exit)) (now (v .exit)) r) ⌝ }
+    ensures { λ r.
+        ⌜ ((l : Lent) →
+        Noting l (now (bytes .entry)) code addr word mark →
+        IsNoted (noted (image l) addr (view (now (keys .entry)) (now (values .entry)) slices)) (now (keys .entry))
+        (now (keys .exit)) (now (values .exit)) r) ⌝ }
 {
-    if is_plain(word) & (s.possible == 0) {
-        return Noted { small: s, fault: 0 };
+    if is_plain(word) & (slices.possible_blocks == 0) {
+        return Noted {
+            small: slices,
+            fault: 0,
+        };
     }
-    let t = check_word(bytes, code, s, addr, word, mark);
+    let t = check_word(bytes, code, slices, addr, word, mark);
     if t.fault != 0 {
         return Noted {
-            small: s,
+            small: slices,
             fault: t.fault,
         };
     }
     Noted {
-        small: note_word(k, v, t, addr, word),
+        small: note_word(keys, values, t, addr, word),
         fault: 0,
     }
 }
@@ -131,8 +156,8 @@ fn after_block(
     objects: &[u32],
     known: &[u64],
     visited: &[u32; executor::VISITED],
-    k: &mut [u64; places::KEYS],
-    v: &mut [u64; places::VALUES],
+    keys: &mut [u64; places::KEYS],
+    values: &mut [u64; places::VALUES],
     a: Around,
     w: walk::Walk,
     addr: u64,
@@ -140,30 +165,50 @@ fn after_block(
     outcome: obj::outcomes::Outcome,
 ) -> walk::Walk
     requires lends { ⌜ Lends (now sections) (now bytes) (now functions) (now objects) (now known) a ⌝ }
-    requires going { ⌜ Going (now k) (now v) w ⌝ }
+    requires going { ⌜ Going (now keys) (now values) w ⌝ }
     requires inside { ⌜ Inside addr ⌝ }
     requires aims { ⌜ Aims (now sections) outcome ⌝ }
-    ensures { λ r. ⌜ ((e : rules.Around) → Of (now (sections .entry)) (now (bytes .entry)) (now (functions .entry)) (now (objects .entry)) (now (known .entry)) a e → word ≡ images.word (e .image) (address-of addr) → Is (after-block e addr (outcome-for outcome) (walk-of (bit (now (visited .entry))) (now (k .entry)) (now (v .entry)) w)) (bit (now (visited .entry))) (now (k .exit)) (now (v .exit)) r) ⌝ }
+    ensures { λ r.
+        ⌜ ((e : rules.Around) →
+        Of (now (sections .entry)) (now (bytes .entry)) (now (functions .entry)) (now (objects .entry))
+        (now (known .entry)) a e →
+        word ≡ images.word (e .image) (address-of addr) →
+        Is
+        (after-block e addr (outcome-for outcome)
+        (walk-of (bit (now (visited .entry))) (now (keys .entry)) (now (values .entry)) w))
+        (bit (now (visited .entry))) (now (keys .exit)) (now (values .exit)) r) ⌝ }
 {
     match outcome {
         obj::outcomes::Outcome::GoOn => w,
         obj::outcomes::Outcome::Illegal => w,
-        obj::outcomes::Outcome::Unknown => do_unknown(k, v, w, addr),
+        obj::outcomes::Outcome::Unknown => do_unknown(keys, values, w, addr),
         obj::outcomes::Outcome::Return => w,
         obj::outcomes::Outcome::Jump(x) => {
             let t = obj::sections::locate(sections, x);
-            do_jump(visited, known, k, v, a, w, addr, word, t)
+            do_jump(visited, known, keys, values, a, w, addr, word, t)
         }
         obj::outcomes::Outcome::JumpTable(x, size) => {
             let t = obj::sections::locate(sections, x);
-            do_table(sections, bytes, objects, known, k, v, a, w, addr, t, size)
+            do_table(
+                sections,
+                bytes,
+                objects,
+                known,
+                keys,
+                values,
+                a,
+                w,
+                addr,
+                t,
+                size,
+            )
         }
         obj::outcomes::Outcome::Branches(first, second) => do_branches(
             sections,
             functions,
             known,
-            k,
-            v,
+            keys,
+            values,
             a,
             w,
             addr,
@@ -196,8 +241,8 @@ fn do_outcome(
     objects: &[u32],
     known: &[u64],
     visited: &[u32; executor::VISITED],
-    k: &mut [u64; places::KEYS],
-    v: &mut [u64; places::VALUES],
+    keys: &mut [u64; places::KEYS],
+    values: &mut [u64; places::VALUES],
     a: Around,
     w: walk::Walk,
     addr: u64,
@@ -206,19 +251,27 @@ fn do_outcome(
     outcome: obj::outcomes::Outcome,
 ) -> walk::Walk
     requires lends { ⌜ Lends (now sections) (now bytes) (now functions) (now objects) (now known) a ⌝ }
-    requires going { ⌜ Going (now k) (now v) w ⌝ }
+    requires going { ⌜ Going (now keys) (now values) w ⌝ }
     requires inside { ⌜ Inside addr ⌝ }
     requires aims { ⌜ Aims (now sections) outcome ⌝ }
-    ensures { λ r. ⌜ ((e : rules.Around) → Of (now (sections .entry)) (now (bytes .entry)) (now (functions .entry)) (now (objects .entry)) (now (known .entry)) a e → word ≡ images.word (e .image) (address-of addr) → Is (rules.do-outcome e addr block (outcome-for outcome) (walk-of (bit (now (visited .entry))) (now (k .entry)) (now (v .entry)) w)) (bit (now (visited .entry))) (now (k .exit)) (now (v .exit)) r) ⌝ }
+    ensures { λ r.
+        ⌜ ((e : rules.Around) →
+        Of (now (sections .entry)) (now (bytes .entry)) (now (functions .entry)) (now (objects .entry))
+        (now (known .entry)) a e →
+        word ≡ images.word (e .image) (address-of addr) →
+        Is
+        (rules.do-outcome e addr block (outcome-for outcome)
+        (walk-of (bit (now (visited .entry))) (now (keys .entry)) (now (values .entry)) w))
+        (bit (now (visited .entry))) (now (keys .exit)) (now (values .exit)) r) ⌝ }
 {
     let kind = kind_of(outcome);
     if kind == 0 {
-        return do_go_on(visited, k, v, a, w, addr, block);
+        return do_go_on(visited, keys, values, a, w, addr, block);
     }
     if kind == 1 {
         return do_illegal(w, addr, block, word);
     }
-    let r = walk::end_block(k, v, w, addr, block);
+    let r = walk::end_block(keys, values, w, addr, block);
     if r.small.fault != 0 {
         return r;
     }
@@ -229,8 +282,8 @@ fn do_outcome(
         objects,
         known,
         visited,
-        k,
-        v,
+        keys,
+        values,
         a,
         r,
         addr,
@@ -242,20 +295,24 @@ fn do_outcome(
 // Whether a word does nothing: its sequence tests met a fault, and no function is looked for, or it is another known function's.
 fn is_stopped(
     known: &[u64],
-    n: usize,
-    k: &[u64],
-    v: &[u64],
-    s: lists::Small,
+    count: usize,
+    keys: &[u64],
+    values: &[u64],
+    slices: function_slices::Small,
     start: u64,
     addr: u64,
     fault: u32,
 ) -> bool
-    requires kept { ⌜ Kept n (now known) ⌝ }
-    requires fit { ⌜ Fit (now k) (now v) s ⌝ }
-    ensures { λ r. ⌜ ((e : rules.Around) → Knows n (now (known .entry)) (e .entries) → e .start ≡ start → r ≡ stops fault (rules.is-known-function e (view (now (k .entry)) (now (v .entry)) s) addr)) ⌝ }
+    requires kept { ⌜ Kept count (now known) ⌝ }
+    requires fit { ⌜ Fit (now keys) (now values) slices ⌝ }
+    ensures { λ r.
+        ⌜ ((e : rules.Around) →
+        Knows count (now (known .entry)) (e .entries) →
+        e .start ≡ start →
+        r ≡ stops fault (rules.is-known-function e (view (now (keys .entry)) (now (values .entry)) slices) addr)) ⌝ }
 {
     if fault == 0 {
-        return is_known_function(known, n, k, v, s, start, addr);
+        return is_known_function(known, count, keys, values, slices, start, addr);
     }
     true
 }
@@ -281,8 +338,8 @@ fn meet_word(
     objects: &[u32],
     known: &[u64],
     visited: &[u32; executor::VISITED],
-    k: &mut [u64; places::KEYS],
-    v: &mut [u64; places::VALUES],
+    keys: &mut [u64; places::KEYS],
+    values: &mut [u64; places::VALUES],
     a: Around,
     w: walk::Walk,
     addr: u64,
@@ -291,12 +348,30 @@ fn meet_word(
     told: obj::outcomes::Told,
 ) -> walk::Walk
     requires meets { ⌜ Meets (now sections) (now bytes) (now functions) (now objects) (now known) a addr word told ⌝ }
-    requires going { ⌜ Going (now k) (now v) w ⌝ }
+    requires going { ⌜ Going (now keys) (now values) w ⌝ }
     requires at { ⌜ At (a .code) addr ⌝ }
-    ensures { λ r. ⌜ ((e : rules.Around) → Of (now (sections .entry)) (now (bytes .entry)) (now (functions .entry)) (now (objects .entry)) (now (known .entry)) a e → word ≡ images.word (e .image) (address-of addr) → told-for told ≡ images.told-at (e .image) addr → Is (rules.instruction-callback e addr block (walk-of (bit (now (visited .entry))) (now (k .entry)) (now (v .entry)) w)) (bit (now (visited .entry))) (now (k .exit)) (now (v .exit)) r) ⌝ }
+    ensures { λ r.
+        ⌜ ((e : rules.Around) →
+        Of (now (sections .entry)) (now (bytes .entry)) (now (functions .entry)) (now (objects .entry))
+        (now (known .entry)) a e →
+        word ≡ images.word (e .image) (address-of addr) →
+        told-for told ≡ images.told-at (e .image) addr →
+        Is
+        (rules.instruction-callback e addr block
+        (walk-of (bit (now (visited .entry))) (now (keys .entry)) (now (values .entry)) w))
+        (bit (now (visited .entry))) (now (keys .exit)) (now (values .exit)) r) ⌝ }
 {
-    let n = note(bytes, k, v, a.code, w.small, addr, word, told.mark);
-    let stopped = is_stopped(known, a.known, k, v, n.small, a.start, addr, n.fault);
+    let n = note(bytes, keys, values, a.code, w.small, addr, word, told.mark);
+    let stopped = is_stopped(
+        known,
+        a.known,
+        keys,
+        values,
+        n.small,
+        a.start,
+        addr,
+        n.fault,
+    );
     let by = first_test(n.fault, stopped);
     if by == 1 {
         return walk::with_fault(w, n.fault);
@@ -313,8 +388,8 @@ fn meet_word(
         objects,
         known,
         visited,
-        k,
-        v,
+        keys,
+        values,
         a,
         r,
         addr,
@@ -333,17 +408,25 @@ pub fn instruction_callback(
     objects: &[u32],
     known: &[u64],
     visited: &[u32; executor::VISITED],
-    k: &mut [u64; places::KEYS],
-    v: &mut [u64; places::VALUES],
+    keys: &mut [u64; places::KEYS],
+    values: &mut [u64; places::VALUES],
     a: Around,
     w: walk::Walk,
     addr: u64,
     block: u64,
 ) -> walk::Walk
     requires lends { ⌜ LendsAll (now sections) (now bytes) (now outcomes) (now functions) (now objects) (now known) a ⌝ }
-    requires going { ⌜ Going (now k) (now v) w ⌝ }
+    requires going { ⌜ Going (now keys) (now values) w ⌝ }
     requires at { ⌜ At (a .code) addr ⌝ }
-    ensures { λ r. ⌜ ((e : rules.Around) (o : Of (now (sections .entry)) (now (bytes .entry)) (now (functions .entry)) (now (objects .entry)) (now (known .entry)) a e) → o .lent .outcomes ≡ now (outcomes .entry) → Is (rules.instruction-callback e addr block (walk-of (bit (now (visited .entry))) (now (k .entry)) (now (v .entry)) w)) (bit (now (visited .entry))) (now (k .exit)) (now (v .exit)) r) ⌝ }
+    ensures { λ r.
+        ⌜ ((e : rules.Around)
+        (o : Of (now (sections .entry)) (now (bytes .entry)) (now (functions .entry)) (now (objects .entry))
+        (now (known .entry)) a e) →
+        o .lent .outcomes ≡ now (outcomes .entry) →
+        Is
+        (rules.instruction-callback e addr block
+        (walk-of (bit (now (visited .entry))) (now (keys .entry)) (now (values .entry)) w))
+        (bit (now (visited .entry))) (now (keys .exit)) (now (values .exit)) r) ⌝ }
 {
     let told = obj::outcomes::told_at(outcomes, a.code, addr);
     let word = word_in(bytes, a.code, addr);
@@ -354,8 +437,8 @@ pub fn instruction_callback(
         objects,
         known,
         visited,
-        k,
-        v,
+        keys,
+        values,
         a,
         w,
         addr,

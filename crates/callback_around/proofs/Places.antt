@@ -15,8 +15,8 @@ use Rattle.rules.specs.Known.{covering}
 use Rattle.rules.specs.Slices.{Slices}
 use Rattle.rules.specs.Step as rules
 use Rattle.obj.specs.declared.sections.Code.{Code}
-use Rattle.lists.specs.View.{view}
-use Rattle.lists.specs.declared.Small.{Small}
+use Rattle.function_slices.specs.View.{view}
+use Rattle.function_slices.specs.declared.Small.{Small}
 use Rattle.executor.specs.Bits.{bit}
 use Rattle.walk.specs.State.{walk-of, place-of, with-place, Fits, Going, Is, Low}
 use Rattle.walk.specs.declared.Walk.{Walk}
@@ -57,11 +57,11 @@ module _ (bits : List ℕ) (c : Code) (k : ℕ) (im : Image) (code : IsCodeOf im
 -- ---- known functions
 
 module _ (e : rules.Around) (k : ℕ) (s : Slices) where
-  pub known-reference : (r : Bool) → r ≡ has self k (s .references) → r ≡ true → k ≡ rules.known-function e k s
+  pub known-reference : (r : Bool) → r ≡ has self k (s .function-references) → r ≡ true → k ≡ rules.known-function e k s
   unfolding rules.known-function
   known-reference r h t = sym (if-true (sym h ∙ t) _ _)
 
-  pub known-entry : (r : Bool) (f : ℕ) → r ≡ has self k (s .references) → r ≡ false → f ≡ covering k (e .entries) → f ≡ rules.known-function e k s
+  pub known-entry : (r : Bool) (f : ℕ) → r ≡ has self k (s .function-references) → r ≡ false → f ≡ covering k (e .entries) → f ≡ rules.known-function e k s
   unfolding rules.known-function
   known-entry r f h t g = g ∙ sym (if-false (sym h ∙ t) _ _)
 

@@ -4,7 +4,7 @@ ghost use mathlib.Core.Bool.{_&&_};
 ghost use Prim.Native.Nat.{_≤_};
 ghost use Rattle.rules.specs.Image.{Image, in-code, index};
 ghost use Rattle.rules.specs.Step as rules;
-ghost use Rattle.lists.specs.View.{view, Fit};
+ghost use Rattle.function_slices.specs.View.{view, Fit};
 ghost use Rattle.executor.specs.Bits.{bit};
 ghost use Rattle.known.specs.Table.{Kept, Knows};
 ghost use Rattle.callback_around.specs.Around.{IsCodeOf};
@@ -20,7 +20,8 @@ pub struct Around {
 // Whether the word at addr was visited.
 pub fn is_seen(visited: &[u32; executor::VISITED], code: obj::sections::Code, addr: u64) -> bool
     requires { ⌜ code .size ≤ 262144 ⌝ }
-    ensures { λ r. ⌜ ((im : Image) → IsCodeOf im code → r ≡ (in-code im addr && bit (now (visited .entry)) (index im addr))) ⌝ }
+    ensures { λ r.
+        ⌜ ((im : Image) → IsCodeOf im code → r ≡ (in-code im addr && bit (now (visited .entry)) (index im addr))) ⌝ }
 {
     if addr / 0x1_0000_0000 == code.number {
         let a = (addr % 0x1_0000_0000) as u32;
@@ -37,37 +38,44 @@ pub fn is_seen(visited: &[u32; executor::VISITED], code: obj::sections::Code, ad
 // The function at or around addr; 0 for none.
 pub fn known_function(
     known: &[u64],
-    n: usize,
-    k: &[u64],
-    v: &[u64],
-    s: lists::Small,
+    count: usize,
+    keys: &[u64],
+    values: &[u64],
+    slices: function_slices::Small,
     addr: u64,
 ) -> u64
-    requires kept { ⌜ Kept n (now known) ⌝ }
-    requires fit { ⌜ Fit (now k) (now v) s ⌝ }
-    ensures { λ r. ⌜ ((e : rules.Around) → Knows n (now (known .entry)) (e .entries) → r ≡ rules.known-function e addr (view (now (k .entry)) (now (v .entry)) s)) ⌝ }
+    requires kept { ⌜ Kept count (now known) ⌝ }
+    requires fit { ⌜ Fit (now keys) (now values) slices ⌝ }
+    ensures { λ r.
+        ⌜ ((e : rules.Around) →
+        Knows count (now (known .entry)) (e .entries) →
+        r ≡ rules.known-function e addr (view (now (keys .entry)) (now (values .entry)) slices)) ⌝ }
 {
-    if lists::is_reference(k, v, s, addr) {
+    if function_slices::is_function_reference(keys, values, slices, addr) {
         return addr;
     }
-    known::covering(known, n, addr)
+    known::covering(known, count, addr)
 }
 
 // Whether addr belongs to a known function that is not the walked one.
 pub fn is_known_function(
     known: &[u64],
-    n: usize,
-    k: &[u64],
-    v: &[u64],
-    s: lists::Small,
+    count: usize,
+    keys: &[u64],
+    values: &[u64],
+    slices: function_slices::Small,
     start: u64,
     addr: u64,
 ) -> bool
-    requires kept { ⌜ Kept n (now known) ⌝ }
-    requires fit { ⌜ Fit (now k) (now v) s ⌝ }
-    ensures { λ r. ⌜ ((e : rules.Around) → Knows n (now (known .entry)) (e .entries) → e .start ≡ start → r ≡ rules.is-known-function e (view (now (k .entry)) (now (v .entry)) s) addr) ⌝ }
+    requires kept { ⌜ Kept count (now known) ⌝ }
+    requires fit { ⌜ Fit (now keys) (now values) slices ⌝ }
+    ensures { λ r.
+        ⌜ ((e : rules.Around) →
+        Knows count (now (known .entry)) (e .entries) →
+        e .start ≡ start →
+        r ≡ rules.is-known-function e (view (now (keys .entry)) (now (values .entry)) slices) addr) ⌝ }
 {
-    let f = known_function(known, n, k, v, s, addr);
+    let f = known_function(known, count, keys, values, slices, addr);
     if f == 0 {
         return false;
     }

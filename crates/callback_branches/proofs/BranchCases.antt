@@ -11,19 +11,19 @@ use Rattle.rules.specs.Image.{Image, locate, to-address, to-table, elsewhere}
 use Rattle.rules.specs.Image as images
 use Rattle.rules.specs.Loop.{cases}
 use Rattle.rules.specs.Ordered.{empty}
-use Rattle.rules.specs.Slices.{Slices, set-ways, add-reference}
+use Rattle.rules.specs.Slices.{Slices, set-branches, add-function-reference}
 use Rattle.rules.specs.Step as rules
 use Rattle.obj.specs.Lent.{Lent, image}
 use Rattle.obj.specs.Outcomes.{branch-list, to-list}
 use Rattle.obj.specs.declared.outcomes.Branch.{Branch}
 use Rattle.obj.specs.declared.outcomes.To.{To}
 use Rattle.obj.specs.declared.outcomes.To.the-variants.{Nowhere, Address, Table, Elsewhere}
-use Rattle.lists.specs.View.{view}
+use Rattle.function_slices.specs.View.{view}
 use Rattle.walk.specs.State.{walk-of, with-small, faulting, Fits, Going, Is, answer}
 use Rattle.walk.specs.declared.Walk.{Walk}
 use Rattle.walk.proofs.Answers.{is-ok, answer-ok, answer-fault}
 use Rattle.callback_around.specs.Around.{Alike, Safe}
-use Rattle.callback_branches.specs.Ways.{some-way, with-ways, branched, Branches}
+use Rattle.callback_branches.specs.Branches.{some-way, with-branches, branched, Branches}
 use Rattle.callback_around.specs.declared.around.Around.{Around}
 use Rattle.callback_branches.specs.declared.branches.Branched.{Branched}
 
@@ -81,7 +81,7 @@ module _ (e : rules.Around) (vis : ℕ → Bool) (k v k′ v′ : List ℕ) (w r
   unfolding rules.do-branch walk-of
   branch-on z i = rw (if-true (eq-eqb _ _ (sym is-f ∙ z))) (paired vis k′ v′ r out true t _ (out ++ (t ∷ [])) refl i)
 
-  pub branch-refers : (f ≡ 0 → ⊥) → Is (rules.on-slices (add-reference f) (walk-of vis k v w)) vis k′ v′ r → Branches (rules.do-branch e link t (walk-of vis k v w) out) out vis k′ v′ (record { walk = r; on = false; to = 0 })
+  pub branch-refers : (f ≡ 0 → ⊥) → Is (rules.on-slices (add-function-reference f) (walk-of vis k v w)) vis k′ v′ r → Branches (rules.do-branch e link t (walk-of vis k v w) out) out vis k′ v′ (record { walk = r; on = false; to = 0 })
   unfolding rules.do-branch walk-of
   branch-refers n i = rw (if-false (ne-eqb _ _ (λ z. n (is-f ∙ z))), ← is-f) (paired vis k′ v′ r out false 0 _ out (sym (nothing-more out)) i)
 
@@ -122,21 +122,21 @@ module _ (e : rules.Around) (vis : ℕ → Bool) (k v : List ℕ) (w : Walk) (g 
 -- ---- the ways on
 
 module _ (vis : ℕ → Bool) (k v k′ v′ : List ℕ) (w r : Walk) (addr one two : ℕ) (first second : Bool) where
-  pub both-ways : first ≡ true → second ≡ true → Is (rules.on-slices (set-ways addr (one ∷ two ∷ [])) (walk-of vis k v w)) vis k′ v′ r → Is (with-ways addr (some-way first one ++ some-way second two) (walk-of vis k v w)) vis k′ v′ r
-  unfolding with-ways if
-  both-ways p q i = rw (p, q) i
+  pub both-branches : first ≡ true → second ≡ true → Is (rules.on-slices (set-branches addr (one ∷ two ∷ [])) (walk-of vis k v w)) vis k′ v′ r → Is (with-branches addr (some-way first one ++ some-way second two) (walk-of vis k v w)) vis k′ v′ r
+  unfolding with-branches if
+  both-branches p q i = rw (p, q) i
 
-  pub first-way : first ≡ true → second ≡ false → Is (rules.on-slices (set-ways addr (one ∷ [])) (walk-of vis k v w)) vis k′ v′ r → Is (with-ways addr (some-way first one ++ some-way second two) (walk-of vis k v w)) vis k′ v′ r
-  unfolding with-ways if
+  pub first-way : first ≡ true → second ≡ false → Is (rules.on-slices (set-branches addr (one ∷ [])) (walk-of vis k v w)) vis k′ v′ r → Is (with-branches addr (some-way first one ++ some-way second two) (walk-of vis k v w)) vis k′ v′ r
+  unfolding with-branches if
   first-way p q i = rw (p, q) i
 
-  pub second-way : first ≡ false → second ≡ true → Is (rules.on-slices (set-ways addr (two ∷ [])) (walk-of vis k v w)) vis k′ v′ r → Is (with-ways addr (some-way first one ++ some-way second two) (walk-of vis k v w)) vis k′ v′ r
-  unfolding with-ways if
+  pub second-way : first ≡ false → second ≡ true → Is (rules.on-slices (set-branches addr (two ∷ [])) (walk-of vis k v w)) vis k′ v′ r → Is (with-branches addr (some-way first one ++ some-way second two) (walk-of vis k v w)) vis k′ v′ r
+  unfolding with-branches if
   second-way p q i = rw (p, q) i
 
-pub no-ways : (vis : ℕ → Bool) (k v : List ℕ) (w : Walk) (addr one two : ℕ) (first second : Bool) → Going k v w → first ≡ false → second ≡ false → Is (with-ways addr (some-way first one ++ some-way second two) (walk-of vis k v w)) vis k v w
-unfolding with-ways if
-no-ways vis k v w addr one two first second g p q = rw (p, q) (is-ok vis k v w refl (g .fine) (g .fits))
+pub no-branches : (vis : ℕ → Bool) (k v : List ℕ) (w : Walk) (addr one two : ℕ) (first second : Bool) → Going k v w → first ≡ false → second ≡ false → Is (with-branches addr (some-way first one ++ some-way second two) (walk-of vis k v w)) vis k v w
+unfolding with-branches if
+no-branches vis k v w addr one two first second g p q = rw (p, q) (is-ok vis k v w refl (g .fine) (g .fits))
 
 -- ---- all of them
 
@@ -156,11 +156,11 @@ module _ (e : rules.Around) where
     All k′ v′ r = Is (rules.do-branches e addr (branch-list x ++ branch-list y) (walk-of vis k v w)) vis k′ v′ r
 
     rest : rules.Walk × List ℕ → Answer rules.Walk
-    rest r = with-ways addr (r .1) (r .0)
+    rest r = with-branches addr (r .1) (r .0)
 
     split : rules.do-branches e addr (branch-list x ++ branch-list y) (walk-of vis k v w) ≡ ((rules.branch-each e (branch-list x) (walk-of vis k v w) [] >>= λ r. rules.branch-each e (branch-list y) (r .0) (r .1)) >>= rest)
-    unfolding rules.do-branches rest with-ways
-    split = ap (λ a. a >>= λ r. if (empty (r .1)) (ok (r .0)) (rules.on-slices (set-ways addr (r .1)) (r .0))) (each-more (branch-list x) (branch-list y) (walk-of vis k v w) [])
+    unfolding rules.do-branches rest with-branches
+    split = ap (λ a. a >>= λ r. if (empty (r .1)) (ok (r .0)) (rules.on-slices (set-branches addr (r .1)) (r .0))) (each-more (branch-list x) (branch-list y) (walk-of vis k v w) [])
 
     pub first-fails : (p .walk .small .fault ≡ 0 → ⊥) → All k₁ v₁ (p .walk)
     unfolding _>>=_ branched
@@ -180,7 +180,7 @@ module _ (e : rules.Around) where
       second-fails n =
           record { is = after ∙ ap (λ b. b >>= rest) (if-false (ne-eqb _ _ n) _ _) ∙ sym (answer-fault vis k₂ v₂ (q .walk) n); fits = λ y. absurd (n y) }
 
-      pub all-branched : (k₃ v₃ : List ℕ) (r : Walk) → q .walk .small .fault ≡ 0 → Is (with-ways addr (some-way (p .on) (p .to) ++ some-way (q .on) (q .to)) (walk-of vis k₂ v₂ (q .walk))) vis k₃ v₃ r → All k₃ v₃ r
+      pub all-branched : (k₃ v₃ : List ℕ) (r : Walk) → q .walk .small .fault ≡ 0 → Is (with-branches addr (some-way (p .on) (p .to) ++ some-way (q .on) (q .to)) (walk-of vis k₂ v₂ (q .walk))) vis k₃ v₃ r → All k₃ v₃ r
       unfolding _>>=_ branched rest
       all-branched k₃ v₃ r f i = record { is = after ∙ ap (λ b. b >>= rest) (if-true (eq-eqb _ _ f) _ _) ∙ i .is; fits = i .fits }
 

@@ -10,15 +10,15 @@ ghost use Rattle.obj.specs.Lent.{Lent, image};
 ghost use Rattle.obj.specs.Sections.{Few, IsCode};
 ghost use Rattle.obj.specs.Symbols.{addresses};
 ghost use Rattle.obj.specs.Outcomes.{branch-list};
-ghost use Rattle.lists.specs.View.{view, Fit};
+ghost use Rattle.function_slices.specs.View.{view, Fit};
 ghost use Rattle.known.specs.Table.{Kept, Knows};
 ghost use Rattle.walk.specs.State.{walk-of, Going, Is};
 ghost use Rattle.callback_around.specs.Around.{Alike, Safe};
-ghost use Rattle.callback_branches.specs.Ways.{Branches, some-way, with-ways};
+ghost use Rattle.callback_branches.specs.Branches.{Branches, some-way, with-branches};
 use callback_around::around::Around;
 use callback_around::around::is_known_function;
 use callback_around::around::known_function;
-use lists::places;
+use function_slices::places;
 
 // The walk after a branch, and where it goes on, if it does.
 pub struct Branched {
@@ -28,13 +28,18 @@ pub struct Branched {
 }
 
 // The function symbol whose size covers the target, else the target.
-fn linked_function(functions: &[u32], code: obj::sections::Code, t: u64) -> u64
+fn linked_function(functions: &[u32], code: obj::sections::Code, target: u64) -> u64
     requires { ⌜ (length (now functions) % 3 ≡ 0) × Rising self (addresses (now functions)) ⌝ }
-    ensures { λ r. ⌜ ((l : Lent) (e : rules.Around) → l .functions ≡ now (functions .entry) → IsCode l code → e .image ≡ image l → r ≡ rules.linked-function e t) ⌝ }
+    ensures { λ r.
+        ⌜ ((l : Lent) (e : rules.Around) →
+        l .functions ≡ now (functions .entry) →
+        IsCode l code →
+        e .image ≡ image l →
+        r ≡ rules.linked-function e target) ⌝ }
 {
-    let s = obj::symbols::symbol_over(functions, code, t);
+    let s = obj::symbols::symbol_over(functions, code, target);
     if s == 0 {
-        return t;
+        return target;
     }
     s
 }
@@ -43,23 +48,30 @@ fn linked_function(functions: &[u32], code: obj::sections::Code, t: u64) -> u64
 fn refers_to(
     functions: &[u32],
     known: &[u64],
-    k: &[u64],
-    v: &[u64],
-    s: lists::Small,
+    keys: &[u64],
+    values: &[u64],
+    slices: function_slices::Small,
     a: Around,
     link: bool,
-    t: u64,
+    target: u64,
 ) -> u64
     requires functions { ⌜ (length (now functions) % 3 ≡ 0) × Rising self (addresses (now functions)) ⌝ }
     requires kept { ⌜ Kept (a .known) (now known) ⌝ }
-    requires fit { ⌜ Fit (now k) (now v) s ⌝ }
-    ensures { λ r. ⌜ ((l : Lent) (e : rules.Around) → l .functions ≡ now (functions .entry) → IsCode l (a .code) → e .image ≡ image l → Alike a e → Knows (a .known) (now (known .entry)) (e .entries) → r ≡ rules.refers-to e link t (view (now (k .entry)) (now (v .entry)) s)) ⌝ }
+    requires fit { ⌜ Fit (now keys) (now values) slices ⌝ }
+    ensures { λ r.
+        ⌜ ((l : Lent) (e : rules.Around) →
+        l .functions ≡ now (functions .entry) →
+        IsCode l (a .code) →
+        e .image ≡ image l →
+        Alike a e →
+        Knows (a .known) (now (known .entry)) (e .entries) →
+        r ≡ rules.refers-to e link target (view (now (keys .entry)) (now (values .entry)) slices)) ⌝ }
 {
-    if is_known_function(known, a.known, k, v, s, a.start, t) {
-        return known_function(known, a.known, k, v, s, t);
+    if is_known_function(known, a.known, keys, values, slices, a.start, target) {
+        return known_function(known, a.known, keys, values, slices, target);
     }
     if link {
-        return linked_function(functions, a.code, t);
+        return linked_function(functions, a.code, target);
     }
     0
 }
@@ -68,28 +80,37 @@ fn refers_to(
 fn do_branch(
     functions: &[u32],
     known: &[u64],
-    k: &mut [u64; places::KEYS],
-    v: &mut [u64; places::VALUES],
+    keys: &mut [u64; places::KEYS],
+    values: &mut [u64; places::VALUES],
     a: Around,
     w: walk::Walk,
     link: bool,
-    t: u64,
+    target: u64,
 ) -> Branched
     requires functions { ⌜ (length (now functions) % 3 ≡ 0) × Rising self (addresses (now functions)) ⌝ }
     requires kept { ⌜ Kept (a .known) (now known) ⌝ }
-    requires going { ⌜ Going (now k) (now v) w ⌝ }
-    ensures { λ r. ⌜ Safe (now (k .exit)) (now (v .exit)) (r .walk) × ((l : Lent) (e : rules.Around) (vis : ℕ → Bool) (out : List ℕ) → l .functions ≡ now (functions .entry) → IsCode l (a .code) → e .image ≡ image l → Alike a e → Knows (a .known) (now (known .entry)) (e .entries) → Branches (rules.do-branch e link t (walk-of vis (now (k .entry)) (now (v .entry)) w) out) out vis (now (k .exit)) (now (v .exit)) r) ⌝ }
+    requires going { ⌜ Going (now keys) (now values) w ⌝ }
+    ensures { λ r.
+        ⌜ Safe (now (keys .exit)) (now (values .exit)) (r .walk) ×
+        ((l : Lent) (e : rules.Around) (vis : ℕ → Bool) (out : List ℕ) →
+        l .functions ≡ now (functions .entry) →
+        IsCode l (a .code) →
+        e .image ≡ image l →
+        Alike a e →
+        Knows (a .known) (now (known .entry)) (e .entries) →
+        Branches (rules.do-branch e link target (walk-of vis (now (keys .entry)) (now (values .entry)) w) out) out vis
+        (now (keys .exit)) (now (values .exit)) r) ⌝ }
 {
-    let f = refers_to(functions, known, k, v, w.small, a, link, t);
+    let f = refers_to(functions, known, keys, values, w.small, a, link, target);
     if f == 0 {
         return Branched {
-            walk: walk::mark_and_push(k, v, w, t),
+            walk: walk::mark_and_push(keys, values, w, target),
             on: true,
-            to: t,
+            to: target,
         };
     }
     Branched {
-        walk: walk::add_reference(k, v, w, f),
+        walk: walk::add_function_reference(keys, values, w, f),
         on: false,
         to: 0,
     }
@@ -100,8 +121,8 @@ fn branch_to(
     sections: &[u32],
     functions: &[u32],
     known: &[u64],
-    k: &mut [u64; places::KEYS],
-    v: &mut [u64; places::VALUES],
+    keys: &mut [u64; places::KEYS],
+    values: &mut [u64; places::VALUES],
     a: Around,
     w: walk::Walk,
     branch: obj::outcomes::Branch,
@@ -109,8 +130,19 @@ fn branch_to(
     requires few { ⌜ Few (now sections) ⌝ }
     requires functions { ⌜ (length (now functions) % 3 ≡ 0) × Rising self (addresses (now functions)) ⌝ }
     requires kept { ⌜ Kept (a .known) (now known) ⌝ }
-    requires going { ⌜ Going (now k) (now v) w ⌝ }
-    ensures { λ r. ⌜ Safe (now (k .exit)) (now (v .exit)) (r .walk) × ((l : Lent) (e : rules.Around) (vis : ℕ → Bool) (out : List ℕ) → l .sections ≡ now (sections .entry) → l .functions ≡ now (functions .entry) → IsCode l (a .code) → e .image ≡ image l → Alike a e → Knows (a .known) (now (known .entry)) (e .entries) → Branches (rules.branch-each e (branch-list branch) (walk-of vis (now (k .entry)) (now (v .entry)) w) out) out vis (now (k .exit)) (now (v .exit)) r) ⌝ }
+    requires going { ⌜ Going (now keys) (now values) w ⌝ }
+    ensures { λ r.
+        ⌜ Safe (now (keys .exit)) (now (values .exit)) (r .walk) ×
+        ((l : Lent) (e : rules.Around) (vis : ℕ → Bool) (out : List ℕ) →
+        l .sections ≡ now (sections .entry) →
+        l .functions ≡ now (functions .entry) →
+        IsCode l (a .code) →
+        e .image ≡ image l →
+        Alike a e →
+        Knows (a .known) (now (known .entry)) (e .entries) →
+        Branches
+        (rules.branch-each e (branch-list branch) (walk-of vis (now (keys .entry)) (now (values .entry)) w) out) out vis
+        (now (keys .exit)) (now (values .exit)) r) ⌝ }
 {
     let to = branch.to;
     let link = branch.link;
@@ -122,7 +154,7 @@ fn branch_to(
         },
         obj::outcomes::To::Address(x) => {
             let t = obj::sections::locate(sections, x);
-            do_branch(functions, known, k, v, a, w, link, t)
+            do_branch(functions, known, keys, values, a, w, link, t)
         }
         obj::outcomes::To::Table(_) => Branched {
             walk: walk::with_fault(w, 7),
@@ -138,9 +170,9 @@ fn branch_to(
 }
 
 // The ways on of two branches, where there are any.
-fn set_ways(
-    k: &mut [u64; places::KEYS],
-    v: &mut [u64; places::VALUES],
+fn set_branches(
+    keys: &mut [u64; places::KEYS],
+    values: &mut [u64; places::VALUES],
     w: walk::Walk,
     addr: u64,
     first: bool,
@@ -148,18 +180,23 @@ fn set_ways(
     second: bool,
     two: u64,
 ) -> walk::Walk
-    requires { ⌜ Going (now k) (now v) w ⌝ }
-    ensures { λ r. ⌜ ((vis : ℕ → Bool) → Is (with-ways addr (some-way first one ++ some-way second two) (walk-of vis (now (k .entry)) (now (v .entry)) w)) vis (now (k .exit)) (now (v .exit)) r) ⌝ }
+    requires { ⌜ Going (now keys) (now values) w ⌝ }
+    ensures { λ r.
+        ⌜ ((vis : ℕ → Bool) →
+        Is
+        (with-branches addr (some-way first one ++ some-way second two)
+        (walk-of vis (now (keys .entry)) (now (values .entry)) w))
+        vis (now (keys .exit)) (now (values .exit)) r) ⌝ }
 {
     if first {
         if second {
             let both: [u64; 2] = [one, two];
-            return walk::set_ways(k, v, w, addr, &both, 2);
+            return walk::set_branches(keys, values, w, addr, &both, 2);
         }
-        return walk::set_way(k, v, w, addr, one);
+        return walk::set_way(keys, values, w, addr, one);
     }
     if second {
-        return walk::set_way(k, v, w, addr, two);
+        return walk::set_way(keys, values, w, addr, two);
     }
     w
 }
@@ -169,8 +206,8 @@ pub fn do_branches(
     sections: &[u32],
     functions: &[u32],
     known: &[u64],
-    k: &mut [u64; places::KEYS],
-    v: &mut [u64; places::VALUES],
+    keys: &mut [u64; places::KEYS],
+    values: &mut [u64; places::VALUES],
     a: Around,
     w: walk::Walk,
     addr: u64,
@@ -180,18 +217,29 @@ pub fn do_branches(
     requires few { ⌜ Few (now sections) ⌝ }
     requires functions { ⌜ (length (now functions) % 3 ≡ 0) × Rising self (addresses (now functions)) ⌝ }
     requires kept { ⌜ Kept (a .known) (now known) ⌝ }
-    requires going { ⌜ Going (now k) (now v) w ⌝ }
-    ensures { λ r. ⌜ ((l : Lent) (e : rules.Around) (vis : ℕ → Bool) → l .sections ≡ now (sections .entry) → l .functions ≡ now (functions .entry) → IsCode l (a .code) → e .image ≡ image l → Alike a e → Knows (a .known) (now (known .entry)) (e .entries) → Is (rules.do-branches e addr (branch-list first ++ branch-list second) (walk-of vis (now (k .entry)) (now (v .entry)) w)) vis (now (k .exit)) (now (v .exit)) r) ⌝ }
+    requires going { ⌜ Going (now keys) (now values) w ⌝ }
+    ensures { λ r.
+        ⌜ ((l : Lent) (e : rules.Around) (vis : ℕ → Bool) →
+        l .sections ≡ now (sections .entry) →
+        l .functions ≡ now (functions .entry) →
+        IsCode l (a .code) →
+        e .image ≡ image l →
+        Alike a e →
+        Knows (a .known) (now (known .entry)) (e .entries) →
+        Is
+        (rules.do-branches e addr (branch-list first ++ branch-list second)
+        (walk-of vis (now (keys .entry)) (now (values .entry)) w))
+        vis (now (keys .exit)) (now (values .exit)) r) ⌝ }
 {
-    let p = branch_to(sections, functions, known, k, v, a, w, first);
+    let p = branch_to(sections, functions, known, keys, values, a, w, first);
     let r = p.walk;
     if r.small.fault != 0 {
         return r;
     }
-    let q = branch_to(sections, functions, known, k, v, a, r, second);
+    let q = branch_to(sections, functions, known, keys, values, a, r, second);
     let t = q.walk;
     if t.small.fault != 0 {
         return t;
     }
-    set_ways(k, v, t, addr, p.on, p.to, q.on, q.to)
+    set_branches(keys, values, t, addr, p.on, p.to, q.on, q.to)
 }

@@ -11,13 +11,13 @@ use Rattle.rules.specs.Address.{address-of, section-of}
 use Rattle.rules.specs.Image.{Image, in-code, index, word}
 use Rattle.rules.specs.Ordered.{self, has}
 use Rattle.rules.specs.Blocks.{startOf, last-end, is-new}
-use Rattle.rules.specs.Slices.{Slices, set-ways, add-reference, add-possible, add-block-start}
+use Rattle.rules.specs.Slices.{Slices, set-branches, add-function-reference, add-possible-block, add-block-start}
 use Rattle.rules.specs.Step as rules
 use Rattle.rules.proofs.Tests.{or-left, or-right}
 use Rattle.obj.specs.declared.sections.Code.{Code}
-use Rattle.lists.specs.View.{view, IsMarked}
-use Rattle.lists.specs.declared.Small.{Small}
-use Rattle.lists.specs.declared.Marked.{Marked}
+use Rattle.function_slices.specs.View.{view, IsMarked}
+use Rattle.function_slices.specs.declared.Small.{Small}
+use Rattle.function_slices.specs.declared.Marked.{Marked}
 use Rattle.walk.specs.State.{walk-of, with-place, with-small, faulting, Fits, Going, Is, Low}
 use Rattle.walk.specs.declared.Walk.{Walk}
 use Rattle.walk.proofs.Answers.{is-ok, is-fault, stopped, onward, going-on, Marking, opened, there, full, marking, going-push}
@@ -41,9 +41,9 @@ module _ (vis : ℕ → Bool) (k v : List ℕ) (w : Walk) (e : rules.Around) (ad
   unfolding rules.do-go-on
   ends-full k′ v′ r t i n = rw (if-true (sym is-b ∙ t)) (stopped vis k′ v′ r _ i n)
 
-  pub ends-before : (k′ v′ k″ v″ : List ℕ) (r q : Walk) → b ≡ true → Is (rules.end-block addr block (walk-of vis k v w)) vis k′ v′ r → r .small .fault ≡ 0 → Is (rules.on-slices (set-ways addr ((addr + 4) ∷ [])) (walk-of vis k′ v′ r)) vis k″ v″ q → Is (rules.do-go-on e addr block (walk-of vis k v w)) vis k″ v″ q
+  pub ends-before : (k′ v′ k″ v″ : List ℕ) (r q : Walk) → b ≡ true → Is (rules.end-block addr block (walk-of vis k v w)) vis k′ v′ r → r .small .fault ≡ 0 → Is (rules.on-slices (set-branches addr ((addr + 4) ∷ [])) (walk-of vis k′ v′ r)) vis k″ v″ q → Is (rules.do-go-on e addr block (walk-of vis k v w)) vis k″ v″ q
   unfolding rules.do-go-on
-  ends-before k′ v′ k″ v″ r q t i z j = rw (if-true (sym is-b ∙ t)) (onward vis vis k′ v′ k″ v″ r q _ (λ x. rules.on-slices (set-ways addr ((addr + 4) ∷ [])) x) i z j)
+  ends-before k′ v′ k″ v″ r q t i z j = rw (if-true (sym is-b ∙ t)) (onward vis vis k′ v′ k″ v″ r q _ (λ x. rules.on-slices (set-branches addr ((addr + 4) ∷ [])) x) i z j)
 
   pub walks-on : (r : Walk) → b ≡ false → Going k v w → Low (addr + 4) → r ≡ with-place w 1 (addr + 4) block → Is (rules.do-go-on e addr block (walk-of vis k v w)) vis k v r
   unfolding rules.do-go-on rules.walk-on
@@ -78,7 +78,7 @@ module _ (e : rules.Around) (vis : ℕ → Bool) (k v : List ℕ) (w : Walk) (g 
       let q : (not (eqb (walk-of vis k v w .slices .prologue) 0) && eqb (walk-of vis k v w .slices .epilogue) 0) ≡ false = unfold walk-of view in rw (ne-eqb (w .small .prologue) 0 n, ne-eqb (w .small .epilogue) 0 m) refl in
       rw (if-false q) (placed-same vis k v w g)
 
-  module _ (n : w .small .prologue ≡ 0 → ⊥) (z : w .small .epilogue ≡ 0) (k′ v′ : List ℕ) (r : Walk) (i : Is (rules.on-slices (set-ways addr ((addr + 4) ∷ [])) (walk-of vis k v w)) vis k′ v′ r) where
+  module _ (n : w .small .prologue ≡ 0 → ⊥) (z : w .small .epilogue ≡ 0) (k′ v′ : List ℕ) (r : Walk) (i : Is (rules.on-slices (set-branches addr ((addr + 4) ∷ [])) (walk-of vis k v w)) vis k′ v′ r) where
     between : (not (eqb (walk-of vis k v w .slices .prologue) 0) && eqb (walk-of vis k v w .slices .epilogue) 0) ≡ true
     unfolding walk-of view
     between = rw (ne-eqb (w .small .prologue) 0 n, eq-eqb (w .small .epilogue) 0 z) refl
@@ -159,22 +159,22 @@ module _ (e : rules.Around) (a : Around) (alike : Alike a e) (vis : ℕ → Bool
     free : eqb (rules.known-function e t (view k v (w .small))) 0 ≡ true
     free = eq-eqb _ _ (sym is-f ∙ none)
 
-    pub other-section : (k′ v′ : List ℕ) (r : Walk) → (t / 0x1_0000_0000 ≡ addr / 0x1_0000_0000 → ⊥) → Is (rules.on-slices (add-reference t) (walk-of vis k v w)) vis k′ v′ r → Out k′ v′ r
+    pub other-section : (k′ v′ : List ℕ) (r : Walk) → (t / 0x1_0000_0000 ≡ addr / 0x1_0000_0000 → ⊥) → Is (rules.on-slices (add-function-reference t) (walk-of vis k v w)) vis k′ v′ r → Out k′ v′ r
     unfolding rules.jump-outside
     other-section k′ v′ r n i =
         let q : not (eqb (section-of t) (section-of addr)) ≡ true = rw (ne-eqb (section-of t) (section-of addr) n) refl in
-        out-as (add-reference t) (if-true free _ _ ∙ if-true (or-left (not (eqb (section-of t) (section-of addr))) _ q) _ _) k′ v′ r i
+        out-as (add-function-reference t) (if-true free _ _ ∙ if-true (or-left (not (eqb (section-of t) (section-of addr))) _ q) _ _) k′ v′ r i
 
-    pub zero-before : (k′ v′ : List ℕ) (r : Walk) → x ≡ 0 → Is (rules.on-slices (add-reference t) (walk-of vis k v w)) vis k′ v′ r → Out k′ v′ r
+    pub zero-before : (k′ v′ : List ℕ) (r : Walk) → x ≡ 0 → Is (rules.on-slices (add-function-reference t) (walk-of vis k v w)) vis k′ v′ r → Out k′ v′ r
     unfolding rules.jump-outside
     zero-before k′ v′ r z i =
-        out-as (add-reference t) (if-true free _ _ ∙ if-true (or-right (not (eqb (section-of t) (section-of addr))) _ (eq-eqb _ _ (sym is-x ∙ z))) _ _) k′ v′ r i
+        out-as (add-function-reference t) (if-true free _ _ ∙ if-true (or-right (not (eqb (section-of t) (section-of addr))) _ (eq-eqb _ _ (sym is-x ∙ z))) _ _) k′ v′ r i
 
-    pub may-be-own : (k′ v′ : List ℕ) (r : Walk) → t / 0x1_0000_0000 ≡ addr / 0x1_0000_0000 → (x ≡ 0 → ⊥) → Is (rules.on-slices (add-possible t) (walk-of vis k v w)) vis k′ v′ r → Out k′ v′ r
+    pub may-be-own : (k′ v′ : List ℕ) (r : Walk) → t / 0x1_0000_0000 ≡ addr / 0x1_0000_0000 → (x ≡ 0 → ⊥) → Is (rules.on-slices (add-possible-block t) (walk-of vis k v w)) vis k′ v′ r → Out k′ v′ r
     unfolding rules.jump-outside
     may-be-own k′ v′ r s z i =
         let q : (not (eqb (section-of t) (section-of addr)) || eqb (word (e .image) (address-of addr)) 0) ≡ false = rw (eq-eqb (section-of t) (section-of addr) s, ne-eqb (word (e .image) (address-of addr)) 0 (λ h. z (is-x ∙ h))) refl in
-        out-as (add-possible t) (if-true free _ _ ∙ if-false q _ _) k′ v′ r i
+        out-as (add-possible-block t) (if-true free _ _ ∙ if-false q _ _) k′ v′ r i
 
   module _ (some : f ≡ 0 → ⊥) where
     taken : eqb (rules.known-function e t (view k v (w .small))) 0 ≡ false
@@ -185,10 +185,10 @@ module _ (e : rules.Around) (a : Around) (alike : Alike a e) (vis : ℕ → Bool
     own-function r s h =
         rw (if-false taken, if-true (eq-eqb (rules.known-function e t (view k v (w .small))) (e .start) (sym is-f ∙ s ∙ sym (alike .start)))) (is-fault vis k v r (rw h refl) (λ z. absurd (omega arith)))
 
-    pub other-function : (k′ v′ : List ℕ) (r : Walk) → (f ≡ a .start → ⊥) → Is (rules.on-slices (add-reference f) (walk-of vis k v w)) vis k′ v′ r → Out k′ v′ r
+    pub other-function : (k′ v′ : List ℕ) (r : Walk) → (f ≡ a .start → ⊥) → Is (rules.on-slices (add-function-reference f) (walk-of vis k v w)) vis k′ v′ r → Out k′ v′ r
     unfolding rules.jump-outside
     other-function k′ v′ r n i =
-        out-as (add-reference f) (if-false taken _ _ ∙ if-false (ne-eqb _ _ (λ q. n (is-f ∙ q ∙ alike .start))) _ _ ∙ ap (λ (y : ℕ). add-reference y (view k v (w .small))) (sym is-f)) k′ v′ r i
+        out-as (add-function-reference f) (if-false taken _ _ ∙ if-false (ne-eqb _ _ (λ q. n (is-f ∙ q ∙ alike .start))) _ _ ∙ ap (λ (y : ℕ). add-function-reference y (view k v (w .small))) (sym is-f)) k′ v′ r i
 
 module _ (vis : ℕ → Bool) (k v : List ℕ) (w : Walk) (e : rules.Around) (addr t : ℕ) where
   module _ (b : Bool) (is-b : b ≡ rules.jumps-inside e addr t (view k v (w .small))) (k′ v′ : List ℕ) (r : Walk) where
@@ -200,7 +200,7 @@ module _ (vis : ℕ → Bool) (k v : List ℕ) (w : Walk) (e : rules.Around) (ad
     unfolding rules.do-jump-elsewhere walk-of
     elsewhere-out h i = rw (if-false (sym is-b ∙ h)) i
 
-  module _ (k′ v′ : List ℕ) (r : Walk) (i : Is (rules.on-slices (set-ways addr (t ∷ [])) (walk-of vis k v w)) vis k′ v′ r) where
+  module _ (k′ v′ : List ℕ) (r : Walk) (i : Is (rules.on-slices (set-branches addr (t ∷ [])) (walk-of vis k v w)) vis k′ v′ r) where
     pub jump-full : (r .small .fault ≡ 0 → ⊥) → Is (rules.do-jump e addr t (walk-of vis k v w)) vis k′ v′ r
     unfolding rules.do-jump
     jump-full n = stopped vis k′ v′ r _ i n

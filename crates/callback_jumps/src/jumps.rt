@@ -6,7 +6,7 @@ ghost use Prim.Native.Nat.{ℕ, _≤_};
 ghost use Rattle.rules.specs.Address.{address-of};
 ghost use Rattle.rules.specs.Image as images;
 ghost use Rattle.rules.specs.Step as rules;
-ghost use Rattle.lists.specs.View.{view, Fit};
+ghost use Rattle.function_slices.specs.View.{view, Fit};
 ghost use Rattle.executor.specs.Bits.{bit};
 ghost use Rattle.known.specs.Table.{Kept, Knows};
 ghost use Rattle.walk.specs.State.{walk-of, Going, Is, Low};
@@ -14,49 +14,57 @@ ghost use Rattle.callback_around.specs.Around.{IsCodeOf, Alike, Inside};
 use callback_around::around::Around;
 use callback_around::around::is_seen;
 use callback_around::around::known_function;
-use lists::places;
+use function_slices::places;
 
 // Whether the word at addr was visited, or a block starts there.
 fn is_met(
     visited: &[u32; executor::VISITED],
-    k: &[u64],
-    v: &[u64],
+    keys: &[u64],
+    values: &[u64],
     w: walk::Walk,
     code: obj::sections::Code,
     addr: u64,
 ) -> bool
-    requires fit { ⌜ Fit (now k) (now v) (w .small) ⌝ }
+    requires fit { ⌜ Fit (now keys) (now values) (w .small) ⌝ }
     requires size { ⌜ code .size ≤ 262144 ⌝ }
-    ensures { λ r. ⌜ ((e : rules.Around) → IsCodeOf (e .image) code → r ≡ rules.is-met e addr (walk-of (bit (now (visited .entry))) (now (k .entry)) (now (v .entry)) w)) ⌝ }
+    ensures { λ r.
+        ⌜ ((e : rules.Around) →
+        IsCodeOf (e .image) code →
+        r ≡ rules.is-met e addr (walk-of (bit (now (visited .entry))) (now (keys .entry)) (now (values .entry)) w)) ⌝ }
 {
     if is_seen(visited, code, addr) {
         return true;
     }
-    lists::has_start(k, v, w.small, addr)
+    function_slices::has_start(keys, values, w.small, addr)
 }
 
 // The block ends before a word that is met; else the walk goes on.
 pub fn do_go_on(
     visited: &[u32; executor::VISITED],
-    k: &mut [u64; places::KEYS],
-    v: &mut [u64; places::VALUES],
+    keys: &mut [u64; places::KEYS],
+    values: &mut [u64; places::VALUES],
     a: Around,
     w: walk::Walk,
     addr: u64,
     block: u64,
 ) -> walk::Walk
-    requires going { ⌜ Going (now k) (now v) w ⌝ }
+    requires going { ⌜ Going (now keys) (now values) w ⌝ }
     requires inside { ⌜ Inside addr ⌝ }
     requires size { ⌜ a .code .size ≤ 262144 ⌝ }
-    ensures { λ r. ⌜ ((e : rules.Around) → Alike a e → Is (rules.do-go-on e addr block (walk-of (bit (now (visited .entry))) (now (k .entry)) (now (v .entry)) w)) (bit (now (visited .entry))) (now (k .exit)) (now (v .exit)) r) ⌝ }
+    ensures { λ r.
+        ⌜ ((e : rules.Around) →
+        Alike a e →
+        Is
+        (rules.do-go-on e addr block (walk-of (bit (now (visited .entry))) (now (keys .entry)) (now (values .entry)) w))
+        (bit (now (visited .entry))) (now (keys .exit)) (now (values .exit)) r) ⌝ }
 {
     let next = addr + 4;
-    if is_met(visited, k, v, w, a.code, next) {
-        let r = walk::end_block(k, v, w, addr, block);
+    if is_met(visited, keys, values, w, a.code, next) {
+        let r = walk::end_block(keys, values, w, addr, block);
         if r.small.fault != 0 {
             return r;
         }
-        return walk::set_way(k, v, r, addr, next);
+        return walk::set_way(keys, values, r, addr, next);
     }
     walk::go_to(w, next, block)
 }
@@ -64,7 +72,11 @@ pub fn do_go_on(
 // A zero word is no function's; after another one the walk goes on, whatever is there.
 pub fn do_illegal(w: walk::Walk, addr: u64, block: u64, word: u32) -> walk::Walk
     requires { ⌜ Inside addr ⌝ }
-    ensures { λ r. ⌜ ((e : rules.Around) (vis : ℕ → Bool) (k v : List ℕ) → Going k v w → word ≡ images.word (e .image) (address-of addr) → Is (rules.do-illegal e addr block (walk-of vis k v w)) vis k v r) ⌝ }
+    ensures { λ r.
+        ⌜ ((e : rules.Around) (vis : ℕ → Bool) (k v : List ℕ) →
+        Going k v w →
+        word ≡ images.word (e .image) (address-of addr) →
+        Is (rules.do-illegal e addr block (walk-of vis k v w)) vis k v r) ⌝ }
 {
     if word == 0 {
         return walk::met_nothing(w);
@@ -74,14 +86,17 @@ pub fn do_illegal(w: walk::Walk, addr: u64, block: u64, word: u32) -> walk::Walk
 
 // Between prologue and epilogue an unknown jump goes on to the next word.
 pub fn do_unknown(
-    k: &mut [u64; places::KEYS],
-    v: &mut [u64; places::VALUES],
+    keys: &mut [u64; places::KEYS],
+    values: &mut [u64; places::VALUES],
     w: walk::Walk,
     addr: u64,
 ) -> walk::Walk
-    requires going { ⌜ Going (now k) (now v) w ⌝ }
+    requires going { ⌜ Going (now keys) (now values) w ⌝ }
     requires inside { ⌜ Inside addr ⌝ }
-    ensures { λ r. ⌜ ((e : rules.Around) (vis : ℕ → Bool) → Is (rules.do-unknown e addr (walk-of vis (now (k .entry)) (now (v .entry)) w)) vis (now (k .exit)) (now (v .exit)) r) ⌝ }
+    ensures { λ r.
+        ⌜ ((e : rules.Around) (vis : ℕ → Bool) →
+        Is (rules.do-unknown e addr (walk-of vis (now (keys .entry)) (now (values .entry)) w)) vis (now (keys .exit))
+        (now (values .exit)) r) ⌝ }
 {
     if w.small.prologue == 0 {
         return w;
@@ -90,21 +105,31 @@ pub fn do_unknown(
         return w;
     }
     let next = addr + 4;
-    let r = walk::set_way(k, v, w, addr, next);
+    let r = walk::set_way(keys, values, w, addr, next);
     if r.small.fault != 0 {
         return r;
     }
-    walk::mark_and_push(k, v, r, next)
+    walk::mark_and_push(keys, values, r, next)
 }
 
-// Whether the target t of the jump at addr lies inside the function, as far as that is known.
-fn jumps_inside(k: &[u64], v: &[u64], s: lists::Small, a: Around, addr: u64, t: u64) -> bool
-    requires { ⌜ Fit (now k) (now v) s ⌝ }
-    ensures { λ r. ⌜ ((e : rules.Around) → Alike a e → r ≡ rules.jumps-inside e addr t (view (now (k .entry)) (now (v .entry)) s)) ⌝ }
+// Whether the target of the jump at addr lies inside the function, as far as that is known.
+fn jumps_inside(
+    keys: &[u64],
+    values: &[u64],
+    slices: function_slices::Small,
+    a: Around,
+    addr: u64,
+    target: u64,
+) -> bool
+    requires { ⌜ Fit (now keys) (now values) slices ⌝ }
+    ensures { λ r.
+        ⌜ ((e : rules.Around) →
+        Alike a e →
+        r ≡ rules.jumps-inside e addr target (view (now (keys .entry)) (now (values .entry)) slices)) ⌝ }
 {
-    let end = lists::last_end(k, v, s);
-    if a.start <= t {
-        return (t < a.end) | (t < end) | (t < addr);
+    let end = function_slices::last_end(keys, values, slices);
+    if a.start <= target {
+        return (target < a.end) | (target < end) | (target < addr);
     }
     false
 }
@@ -112,24 +137,29 @@ fn jumps_inside(k: &[u64], v: &[u64], s: lists::Small, a: Around, addr: u64, t: 
 // A block of the function starts at the target; the walk goes on there, unless it was visited.
 fn jump_inside(
     visited: &[u32; executor::VISITED],
-    k: &mut [u64; places::KEYS],
-    v: &mut [u64; places::VALUES],
+    keys: &mut [u64; places::KEYS],
+    values: &mut [u64; places::VALUES],
     code: obj::sections::Code,
     w: walk::Walk,
-    t: u64,
+    target: u64,
 ) -> walk::Walk
-    requires going { ⌜ Going (now k) (now v) w ⌝ }
-    requires low { ⌜ Low t ⌝ }
+    requires going { ⌜ Going (now keys) (now values) w ⌝ }
+    requires low { ⌜ Low target ⌝ }
     requires size { ⌜ code .size ≤ 262144 ⌝ }
-    ensures { λ r. ⌜ ((e : rules.Around) → IsCodeOf (e .image) code → Is (rules.jump-inside e t (walk-of (bit (now (visited .entry))) (now (k .entry)) (now (v .entry)) w)) (bit (now (visited .entry))) (now (k .exit)) (now (v .exit)) r) ⌝ }
+    ensures { λ r.
+        ⌜ ((e : rules.Around) →
+        IsCodeOf (e .image) code →
+        Is
+        (rules.jump-inside e target (walk-of (bit (now (visited .entry))) (now (keys .entry)) (now (values .entry)) w))
+        (bit (now (visited .entry))) (now (keys .exit)) (now (values .exit)) r) ⌝ }
 {
-    let m = lists::add_block_start(k, v, w.small, t);
+    let m = function_slices::add_block_start(keys, values, w.small, target);
     let r = walk::with_small(w, m.small);
     if m.new {
-        if is_seen(visited, code, t) {
+        if is_seen(visited, code, target) {
             return r;
         }
-        return walk::go_to(r, t, t);
+        return walk::go_to(r, target, target);
     }
     r
 }
@@ -137,82 +167,104 @@ fn jump_inside(
 // The target is a known function's, or one is referred to, or it may be a block of this one.
 fn jump_outside(
     known: &[u64],
-    k: &mut [u64; places::KEYS],
-    v: &mut [u64; places::VALUES],
+    keys: &mut [u64; places::KEYS],
+    values: &mut [u64; places::VALUES],
     a: Around,
     w: walk::Walk,
     addr: u64,
     word: u32,
-    t: u64,
+    target: u64,
 ) -> walk::Walk
     requires kept { ⌜ Kept (a .known) (now known) ⌝ }
-    requires going { ⌜ Going (now k) (now v) w ⌝ }
-    ensures { λ r. ⌜ ((e : rules.Around) (vis : ℕ → Bool) → Alike a e → Knows (a .known) (now (known .entry)) (e .entries) → word ≡ images.word (e .image) (address-of addr) → Is (rules.on-slices (rules.jump-outside e addr t) (walk-of vis (now (k .entry)) (now (v .entry)) w)) vis (now (k .exit)) (now (v .exit)) r) ⌝ }
+    requires going { ⌜ Going (now keys) (now values) w ⌝ }
+    ensures { λ r.
+        ⌜ ((e : rules.Around) (vis : ℕ → Bool) →
+        Alike a e →
+        Knows (a .known) (now (known .entry)) (e .entries) →
+        word ≡ images.word (e .image) (address-of addr) →
+        Is
+        (rules.on-slices (rules.jump-outside e addr target) (walk-of vis (now (keys .entry)) (now (values .entry)) w))
+        vis (now (keys .exit)) (now (values .exit)) r) ⌝ }
 {
-    let f = known_function(known, a.known, k, v, w.small, t);
+    let f = known_function(known, a.known, keys, values, w.small, target);
     if f == 0 {
-        if t / 0x1_0000_0000 != addr / 0x1_0000_0000 {
-            return walk::add_reference(k, v, w, t);
+        if target / 0x1_0000_0000 != addr / 0x1_0000_0000 {
+            return walk::add_function_reference(keys, values, w, target);
         }
         if word == 0 {
-            return walk::add_reference(k, v, w, t);
+            return walk::add_function_reference(keys, values, w, target);
         }
-        return walk::add_possible(k, v, w, t);
+        return walk::add_possible_block(keys, values, w, target);
     }
     if f == a.start {
         return walk::with_fault(w, 8);
     }
-    walk::add_reference(k, v, w, f)
+    walk::add_function_reference(keys, values, w, f)
 }
 
 // A jump to another word.
 fn do_jump_elsewhere(
     visited: &[u32; executor::VISITED],
     known: &[u64],
-    k: &mut [u64; places::KEYS],
-    v: &mut [u64; places::VALUES],
+    keys: &mut [u64; places::KEYS],
+    values: &mut [u64; places::VALUES],
     a: Around,
     w: walk::Walk,
     addr: u64,
     word: u32,
-    t: u64,
+    target: u64,
 ) -> walk::Walk
     requires kept { ⌜ Kept (a .known) (now known) ⌝ }
-    requires going { ⌜ Going (now k) (now v) w ⌝ }
-    requires low { ⌜ Low t ⌝ }
+    requires going { ⌜ Going (now keys) (now values) w ⌝ }
+    requires low { ⌜ Low target ⌝ }
     requires size { ⌜ a .code .size ≤ 262144 ⌝ }
-    ensures { λ r. ⌜ ((e : rules.Around) → Alike a e → Knows (a .known) (now (known .entry)) (e .entries) → word ≡ images.word (e .image) (address-of addr) → Is (rules.do-jump-elsewhere e addr t (walk-of (bit (now (visited .entry))) (now (k .entry)) (now (v .entry)) w)) (bit (now (visited .entry))) (now (k .exit)) (now (v .exit)) r) ⌝ }
+    ensures { λ r.
+        ⌜ ((e : rules.Around) →
+        Alike a e →
+        Knows (a .known) (now (known .entry)) (e .entries) →
+        word ≡ images.word (e .image) (address-of addr) →
+        Is
+        (rules.do-jump-elsewhere e addr target
+        (walk-of (bit (now (visited .entry))) (now (keys .entry)) (now (values .entry)) w))
+        (bit (now (visited .entry))) (now (keys .exit)) (now (values .exit)) r) ⌝ }
 {
-    if jumps_inside(k, v, w.small, a, addr, t) {
-        return jump_inside(visited, k, v, a.code, w, t);
+    if jumps_inside(keys, values, w.small, a, addr, target) {
+        return jump_inside(visited, keys, values, a.code, w, target);
     }
-    jump_outside(known, k, v, a, w, addr, word, t)
+    jump_outside(known, keys, values, a, w, addr, word, target)
 }
 
 // A jump to its own word ends the walk of it.
 pub fn do_jump(
     visited: &[u32; executor::VISITED],
     known: &[u64],
-    k: &mut [u64; places::KEYS],
-    v: &mut [u64; places::VALUES],
+    keys: &mut [u64; places::KEYS],
+    values: &mut [u64; places::VALUES],
     a: Around,
     w: walk::Walk,
     addr: u64,
     word: u32,
-    t: u64,
+    target: u64,
 ) -> walk::Walk
     requires kept { ⌜ Kept (a .known) (now known) ⌝ }
-    requires going { ⌜ Going (now k) (now v) w ⌝ }
-    requires low { ⌜ Low t ⌝ }
+    requires going { ⌜ Going (now keys) (now values) w ⌝ }
+    requires low { ⌜ Low target ⌝ }
     requires size { ⌜ a .code .size ≤ 262144 ⌝ }
-    ensures { λ r. ⌜ ((e : rules.Around) → Alike a e → Knows (a .known) (now (known .entry)) (e .entries) → word ≡ images.word (e .image) (address-of addr) → Is (rules.do-jump e addr t (walk-of (bit (now (visited .entry))) (now (k .entry)) (now (v .entry)) w)) (bit (now (visited .entry))) (now (k .exit)) (now (v .exit)) r) ⌝ }
+    ensures { λ r.
+        ⌜ ((e : rules.Around) →
+        Alike a e →
+        Knows (a .known) (now (known .entry)) (e .entries) →
+        word ≡ images.word (e .image) (address-of addr) →
+        Is
+        (rules.do-jump e addr target (walk-of (bit (now (visited .entry))) (now (keys .entry)) (now (values .entry)) w))
+        (bit (now (visited .entry))) (now (keys .exit)) (now (values .exit)) r) ⌝ }
 {
-    let r = walk::set_way(k, v, w, addr, t);
+    let r = walk::set_way(keys, values, w, addr, target);
     if r.small.fault != 0 {
         return r;
     }
-    if t == addr {
+    if target == addr {
         return r;
     }
-    do_jump_elsewhere(visited, known, k, v, a, r, addr, word, t)
+    do_jump_elsewhere(visited, known, keys, values, a, r, addr, word, target)
 }

@@ -10,7 +10,7 @@ use borrow.Author.Tests.{eq-eqb, ne-eqb}
 use Rattle.rules.specs.Choice.{if, if-true, if-false, Answer, ok, fault, _>>=_, any}
 use Rattle.rules.specs.Image.{Image}
 use Rattle.rules.specs.Blocks.{last-start, last-end}
-use Rattle.rules.specs.Slices.{Slices, set-ways, set-table, add-all-possible}
+use Rattle.rules.specs.Slices.{Slices, set-branches, set-jump-table-reference, add-all-possible-blocks}
 use Rattle.rules.specs.JumpTable.{Entries, jump-table-entries}
 use Rattle.rules.specs.Step as rules
 use Rattle.ordered.specs.Part.{Column}
@@ -18,7 +18,7 @@ use Rattle.analysis.specs.Tables.{IsTable}
 use Rattle.analysis.specs.Tables as tables
 use Rattle.analysis.specs.declared.Table.{Table}
 use Rattle.obj.specs.Lent.{Lent, lent, image}
-use Rattle.lists.specs.View.{view}
+use Rattle.function_slices.specs.View.{view}
 use Rattle.walk.specs.State.{walk-of, with-small, faulting, Going, Is}
 use Rattle.walk.specs.declared.Walk.{Walk}
 use Rattle.walk.proofs.Answers.{is-fault, stopped, onward}
@@ -59,11 +59,11 @@ never z = absurd (false≢true z)
 -- ---- blocks and ways on
 
 module _ (e : rules.Around) (vis : ℕ → Bool) (k v : List ℕ) (w : Walk) (addr t n size : ℕ) (l : List ℕ) (is-n : n ≡ size)
-    (k₁ v₁ : List ℕ) (b : Walk) (first : Is (rules.on-slices (set-table t n) (walk-of vis k v w)) vis k₁ v₁ b) where
+    (k₁ v₁ : List ℕ) (b : Walk) (first : Is (rules.on-slices (set-jump-table-reference t n) (walk-of vis k v w)) vis k₁ v₁ b) where
   abbrev Owned : List ℕ → List ℕ → Walk → Type 0
   Owned k′ v′ r = Is (rules.do-own-table e addr t (record { taken = l; size = size }) (walk-of vis k v w)) vis k′ v′ r
 
-  sized : Is (rules.on-slices (set-table t size) (walk-of vis k v w)) vis k₁ v₁ b
+  sized : Is (rules.on-slices (set-jump-table-reference t size) (walk-of vis k v w)) vis k₁ v₁ b
   sized = rw (← is-n) first
 
   pub tables-full : (b .small .fault ≡ 0 → ⊥) → Owned k₁ v₁ b
@@ -74,13 +74,13 @@ module _ (e : rules.Around) (vis : ℕ → Bool) (k v : List ℕ) (w : Walk) (ad
     pub blocks-full : (c .small .fault ≡ 0 → ⊥) → Owned k₂ v₂ c
     unfolding rules.do-own-table
     blocks-full n =
-        onward vis vis k₁ v₁ k₂ v₂ b c _ (λ x. rules.mark-and-push-all l x >>= λ u. rules.on-slices (set-ways addr l) u) sized z (stopped vis k₂ v₂ c _ second n)
+        onward vis vis k₁ v₁ k₂ v₂ b c _ (λ x. rules.mark-and-push-all l x >>= λ u. rules.on-slices (set-branches addr l) u) sized z (stopped vis k₂ v₂ c _ second n)
 
-    pub table-owned : (k₃ v₃ : List ℕ) (r : Walk) → c .small .fault ≡ 0 → Is (rules.on-slices (set-ways addr l) (walk-of vis k₂ v₂ c)) vis k₃ v₃ r → Owned k₃ v₃ r
+    pub table-owned : (k₃ v₃ : List ℕ) (r : Walk) → c .small .fault ≡ 0 → Is (rules.on-slices (set-branches addr l) (walk-of vis k₂ v₂ c)) vis k₃ v₃ r → Owned k₃ v₃ r
     unfolding rules.do-own-table
     table-owned k₃ v₃ r y i =
-        onward vis vis k₁ v₁ k₃ v₃ b r _ (λ x. rules.mark-and-push-all l x >>= λ u. rules.on-slices (set-ways addr l) u) sized z
-        (onward vis vis k₂ v₂ k₃ v₃ c r _ (λ u. rules.on-slices (set-ways addr l) u) second y i)
+        onward vis vis k₁ v₁ k₃ v₃ b r _ (λ x. rules.mark-and-push-all l x >>= λ u. rules.on-slices (set-branches addr l) u) sized z
+        (onward vis vis k₂ v₂ k₃ v₃ c r _ (λ u. rules.on-slices (set-branches addr l) u) second y i)
 
 -- ---- the function's end
 
@@ -100,7 +100,7 @@ module _ (e : rules.Around) (vis : ℕ → Bool) (k v k′ v′ : List ℕ) (w r
   unfolding taken-table walk-of
   takes-own h i = rw (if-true (sym is-b ∙ h)) i
 
-  pub takes-possible : b ≡ false → Is (rules.on-slices (add-all-possible (x .taken)) (walk-of vis k v w)) vis k′ v′ r → Is (taken-table e addr t x (walk-of vis k v w)) vis k′ v′ r
+  pub takes-possible : b ≡ false → Is (rules.on-slices (add-all-possible-blocks (x .taken)) (walk-of vis k v w)) vis k′ v′ r → Is (taken-table e addr t x (walk-of vis k v w)) vis k′ v′ r
   unfolding taken-table walk-of
   takes-possible h i = rw (if-false (sym is-b ∙ h)) i
 

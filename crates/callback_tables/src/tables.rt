@@ -10,29 +10,29 @@ ghost use Rattle.obj.specs.Lent.{Lent, image};
 ghost use Rattle.obj.specs.Sections.{Few};
 ghost use Rattle.obj.specs.Symbols.{KeysAscend};
 ghost use Rattle.analysis.specs.Tables.{Passed, AtTable};
-ghost use Rattle.lists.specs.View.{view, Fit};
+ghost use Rattle.function_slices.specs.View.{view, Fit};
 ghost use Rattle.known.specs.Table.{Kept, Knows};
 ghost use Rattle.walk.specs.State.{walk-of, Going, Is};
 ghost use Rattle.callback_around.specs.Around.{Alike, Inside};
 ghost use Rattle.callback_tables.specs.Taken.{taken-table};
 use callback_around::around::Around;
 use callback_around::around::is_known_function;
-use lists::places;
+use function_slices::places;
 
 // Whether an entry lies behind the start, and no further than the last block or the next word.
-fn is_among(t: u64, start: u64, last: u64, next: u64) -> bool
-    ensures { λ r. ⌜ r ≡ (ltb start t && (leb t last || leb t next)) ⌝ }
+fn is_among(target: u64, start: u64, last: u64, next: u64) -> bool
+    ensures { λ r. ⌜ r ≡ (ltb start target && (leb target last || leb target next)) ⌝ }
 {
-    (start < t) & ((t <= last) | (t <= next))
+    (start < target) & ((target <= last) | (target <= next))
 }
 
-// Whether one of the first n entries does.
-fn any_among(entries: &[u64], n: usize, start: u64, last: u64, next: u64) -> bool
-    requires { ⌜ n ≤ length (now entries) ⌝ }
-    ensures { λ r. ⌜ r ≡ any (λ t. ltb start t && (leb t last || leb t next)) (take n (now (entries .entry))) ⌝ }
+// Whether one of the first `count` entries does.
+fn any_among(entries: &[u64], count: usize, start: u64, last: u64, next: u64) -> bool
+    requires { ⌜ count ≤ length (now entries) ⌝ }
+    ensures { λ r. ⌜ r ≡ any (λ t. ltb start t && (leb t last || leb t next)) (take count (now (entries .entry))) ⌝ }
 {
     let mut i: usize = 0;
-    while i < n {
+    while i < count {
         if is_among(entries[i], start, last, next) {
             return true;
         }
@@ -41,25 +41,30 @@ fn any_among(entries: &[u64], n: usize, start: u64, last: u64, next: u64) -> boo
     false
 }
 
-// Whether one of the first n entries belongs to another known function.
+// Whether one of the first `len` entries belongs to another known function.
 fn any_known(
     entries: &[u64],
-    n: usize,
+    len: usize,
     known: &[u64],
     count: usize,
-    k: &[u64],
-    v: &[u64],
-    s: lists::Small,
+    keys: &[u64],
+    values: &[u64],
+    slices: function_slices::Small,
     start: u64,
 ) -> bool
-    requires inside { ⌜ n ≤ length (now entries) ⌝ }
+    requires inside { ⌜ len ≤ length (now entries) ⌝ }
     requires kept { ⌜ Kept count (now known) ⌝ }
-    requires fit { ⌜ Fit (now k) (now v) s ⌝ }
-    ensures { λ r. ⌜ ((e : rules.Around) → Knows count (now (known .entry)) (e .entries) → e .start ≡ start → r ≡ any (rules.is-known-function e (view (now (k .entry)) (now (v .entry)) s)) (take n (now (entries .entry)))) ⌝ }
+    requires fit { ⌜ Fit (now keys) (now values) slices ⌝ }
+    ensures { λ r.
+        ⌜ ((e : rules.Around) →
+        Knows count (now (known .entry)) (e .entries) →
+        e .start ≡ start →
+        r ≡ any (rules.is-known-function e (view (now (keys .entry)) (now (values .entry)) slices))
+        (take len (now (entries .entry)))) ⌝ }
 {
     let mut i: usize = 0;
-    while i < n {
-        if is_known_function(known, count, k, v, s, start, entries[i]) {
+    while i < len {
+        if is_known_function(known, count, keys, values, slices, start, entries[i]) {
             return true;
         }
         i += 1;
@@ -67,26 +72,41 @@ fn any_known(
     false
 }
 
-// Whether the first n entries are blocks of the function.
+// Whether the first `count` entries are blocks of the function.
 fn is_own_table(
     entries: &[u64],
-    n: usize,
+    count: usize,
     known: &[u64],
-    k: &[u64],
-    v: &[u64],
-    s: lists::Small,
+    keys: &[u64],
+    values: &[u64],
+    slices: function_slices::Small,
     a: Around,
     addr: u64,
 ) -> bool
-    requires inside { ⌜ n ≤ length (now entries) ⌝ }
+    requires inside { ⌜ count ≤ length (now entries) ⌝ }
     requires kept { ⌜ Kept (a .known) (now known) ⌝ }
-    requires fit { ⌜ Fit (now k) (now v) s ⌝ }
+    requires fit { ⌜ Fit (now keys) (now values) slices ⌝ }
     requires word { ⌜ Inside addr ⌝ }
-    ensures { λ r. ⌜ (r ≡ true → 0 < n) × ((e : rules.Around) → Alike a e → Knows (a .known) (now (known .entry)) (e .entries) → r ≡ rules.is-own-table e addr (take n (now (entries .entry))) (view (now (k .entry)) (now (v .entry)) s)) ⌝ }
+    ensures { λ r.
+        ⌜ (r ≡ true → 0 < count) ×
+        ((e : rules.Around) →
+        Alike a e →
+        Knows (a .known) (now (known .entry)) (e .entries) →
+        r ≡ rules.is-own-table e addr (take count (now (entries .entry)))
+        (view (now (keys .entry)) (now (values .entry)) slices)) ⌝ }
 {
-    let last = lists::last_start(k, v, s);
-    if any_among(entries, n, a.start, last, addr + 4) {
-        if any_known(entries, n, known, a.known, k, v, s, a.start) {
+    let last = function_slices::last_start(keys, values, slices);
+    if any_among(entries, count, a.start, last, addr + 4) {
+        if any_known(
+            entries,
+            count,
+            known,
+            a.known,
+            keys,
+            values,
+            slices,
+            a.start,
+        ) {
             return false;
         }
         return true;
@@ -96,36 +116,51 @@ fn is_own_table(
 
 // The entries are blocks of the function, and ways on.
 fn do_own_table(
-    k: &mut [u64; places::KEYS],
-    v: &mut [u64; places::VALUES],
+    keys: &mut [u64; places::KEYS],
+    values: &mut [u64; places::VALUES],
     w: walk::Walk,
     addr: u64,
-    t: u64,
+    target: u64,
     entries: &[u64],
     table: analysis::Table,
 ) -> walk::Walk
-    requires going { ⌜ Going (now k) (now v) w ⌝ }
+    requires going { ⌜ Going (now keys) (now values) w ⌝ }
     requires some { ⌜ (0 < table .count) × (table .count ≤ length (now entries)) ⌝ }
-    ensures { λ r. ⌜ ((e : rules.Around) (vis : ℕ → Bool) → Is (rules.do-own-table e addr t (record { taken = take (table .count) (now (entries .entry)); size = table .size }) (walk-of vis (now (k .entry)) (now (v .entry)) w)) vis (now (k .exit)) (now (v .exit)) r) ⌝ }
+    ensures { λ r.
+        ⌜ ((e : rules.Around) (vis : ℕ → Bool) →
+        Is
+        (rules.do-own-table e addr target
+        (record { taken = take (table .count) (now (entries .entry)); size = table .size })
+        (walk-of vis (now (keys .entry)) (now (values .entry)) w))
+        vis (now (keys .exit)) (now (values .exit)) r) ⌝ }
 {
-    let b = walk::set_table(k, v, w, t, obj::sections::wide(table.size));
+    let b = walk::set_jump_table_reference(
+        keys,
+        values,
+        w,
+        target,
+        obj::sections::wide(table.size),
+    );
     if b.small.fault != 0 {
         return b;
     }
-    let c = walk::mark_and_push_all(k, v, b, entries, table.count);
+    let c = walk::mark_and_push_all(keys, values, b, entries, table.count);
     if c.small.fault != 0 {
         return c;
     }
-    walk::set_ways(k, v, c, addr, entries, table.count)
+    walk::set_branches(keys, values, c, addr, entries, table.count)
 }
 
 // The function's end, where it is known, else the last block's.
-fn known_end(k: &[u64], v: &[u64], s: lists::Small, a: Around) -> u64
-    requires { ⌜ Fit (now k) (now v) s ⌝ }
-    ensures { λ r. ⌜ ((e : rules.Around) → Alike a e → r ≡ rules.known-end e (view (now (k .entry)) (now (v .entry)) s)) ⌝ }
+fn known_end(keys: &[u64], values: &[u64], slices: function_slices::Small, a: Around) -> u64
+    requires { ⌜ Fit (now keys) (now values) slices ⌝ }
+    ensures { λ r.
+        ⌜ ((e : rules.Around) →
+        Alike a e →
+        r ≡ rules.known-end e (view (now (keys .entry)) (now (values .entry)) slices)) ⌝ }
 {
     if a.end == 0 {
-        return lists::last_end(k, v, s);
+        return function_slices::last_end(keys, values, slices);
     }
     a.end
 }
@@ -133,57 +168,73 @@ fn known_end(k: &[u64], v: &[u64], s: lists::Small, a: Around) -> u64
 // What was read of a table: its entries are blocks of the function, or may be.
 fn take_table(
     known: &[u64],
-    k: &mut [u64; places::KEYS],
-    v: &mut [u64; places::VALUES],
+    keys: &mut [u64; places::KEYS],
+    values: &mut [u64; places::VALUES],
     a: Around,
     w: walk::Walk,
     addr: u64,
-    t: u64,
+    target: u64,
     entries: &[u64],
     table: analysis::Table,
 ) -> walk::Walk
     requires inside { ⌜ table .count ≤ length (now entries) ⌝ }
     requires kept { ⌜ Kept (a .known) (now known) ⌝ }
-    requires going { ⌜ Going (now k) (now v) w ⌝ }
+    requires going { ⌜ Going (now keys) (now values) w ⌝ }
     requires word { ⌜ Inside addr ⌝ }
-    ensures { λ r. ⌜ ((e : rules.Around) (vis : ℕ → Bool) → Alike a e → Knows (a .known) (now (known .entry)) (e .entries) → Is (taken-table e addr t (record { taken = take (table .count) (now (entries .entry)); size = table .size }) (walk-of vis (now (k .entry)) (now (v .entry)) w)) vis (now (k .exit)) (now (v .exit)) r) ⌝ }
+    ensures { λ r.
+        ⌜ ((e : rules.Around) (vis : ℕ → Bool) →
+        Alike a e →
+        Knows (a .known) (now (known .entry)) (e .entries) →
+        Is
+        (taken-table e addr target (record { taken = take (table .count) (now (entries .entry)); size = table .size })
+        (walk-of vis (now (keys .entry)) (now (values .entry)) w))
+        vis (now (keys .exit)) (now (values .exit)) r) ⌝ }
 {
-    if is_own_table(entries, table.count, known, k, v, w.small, a, addr) {
-        return do_own_table(k, v, w, addr, t, entries, table);
+    if is_own_table(entries, table.count, known, keys, values, w.small, a, addr) {
+        return do_own_table(keys, values, w, addr, target, entries, table);
     }
-    walk::add_all_possible(k, v, w, entries, table.count)
+    walk::add_all_possible_blocks(keys, values, w, entries, table.count)
 }
 
-// The jump table at t, with a size or 0.
+// The jump table at `target`, with a size or 0.
 pub fn do_table(
     sections: &[u32],
     bytes: &[u8],
     objects: &[u32],
     known: &[u64],
-    k: &mut [u64; places::KEYS],
-    v: &mut [u64; places::VALUES],
+    keys: &mut [u64; places::KEYS],
+    values: &mut [u64; places::VALUES],
     a: Around,
     w: walk::Walk,
     addr: u64,
-    t: u64,
+    target: u64,
     size: u32,
 ) -> walk::Walk
     requires few { ⌜ Few (now sections) ⌝ }
     requires passed { ⌜ Passed (now sections) (now bytes) ⌝ }
-    requires table { ⌜ AtTable (now sections) t ⌝ }
+    requires table { ⌜ AtTable (now sections) target ⌝ }
     requires objects { ⌜ KeysAscend (now sections) (now objects) ⌝ }
     requires kept { ⌜ Kept (a .known) (now known) ⌝ }
-    requires going { ⌜ Going (now k) (now v) w ⌝ }
+    requires going { ⌜ Going (now keys) (now values) w ⌝ }
     requires word { ⌜ Inside addr ⌝ }
-    ensures { λ r. ⌜ ((l : Lent) (e : rules.Around) (vis : ℕ → Bool) → l .sections ≡ now (sections .entry) → l .bytes ≡ now (bytes .entry) → l .objects ≡ now (objects .entry) → e .image ≡ image l → Alike a e → Knows (a .known) (now (known .entry)) (e .entries) → Is (rules.do-table e addr t size (walk-of vis (now (k .entry)) (now (v .entry)) w)) vis (now (k .exit)) (now (v .exit)) r) ⌝ }
+    ensures { λ r.
+        ⌜ ((l : Lent) (e : rules.Around) (vis : ℕ → Bool) →
+        l .sections ≡ now (sections .entry) →
+        l .bytes ≡ now (bytes .entry) →
+        l .objects ≡ now (objects .entry) →
+        e .image ≡ image l →
+        Alike a e →
+        Knows (a .known) (now (known .entry)) (e .entries) →
+        Is (rules.do-table e addr target size (walk-of vis (now (keys .entry)) (now (values .entry)) w)) vis
+        (now (keys .exit)) (now (values .exit)) r) ⌝ }
 {
     let mut entries: [u64; 256] = [0; 256];
-    let past = known_end(k, v, w.small, a);
+    let past = known_end(keys, values, w.small, a);
     let table = analysis::uniq_jump_table_entries(
         sections,
         bytes,
         objects,
-        t,
+        target,
         size,
         a.start,
         past,
@@ -192,5 +243,5 @@ pub fn do_table(
     if table.fault != 0 {
         return walk::with_fault(w, table.fault);
     }
-    take_table(known, k, v, a, w, addr, t, &entries, table)
+    take_table(known, keys, values, a, w, addr, target, &entries, table)
 }

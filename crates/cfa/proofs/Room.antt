@@ -67,7 +67,7 @@ module _ (cap : Capacity) where
     process-fits k es f =
         bind-holds (trivial _)
         (λ r _. if-holds
-        (λ _. bind-holds (try-fits (r .slices .references) es f) (λ fs g. if-holds (λ _. bind-holds (trivial _) (λ t _. store-fits k t _ fs g)) (λ _. store-fits k _ 0 fs g)))
+        (λ _. bind-holds (try-fits (r .slices .function-references) es f) (λ fs g. if-holds (λ _. bind-holds (trivial _) (λ t _. store-fits k t _ fs g)) (λ _. store-fits k _ 0 fs g)))
         (λ _. aside-fits k es f))
 
     each-fits : (ks : List ℕ) (es : List Entry) → Fits es → Holds Fits (rules.process-each im cap ks es)
@@ -83,7 +83,7 @@ module _ (cap : Capacity) where
     entry-fits final k (some s) r f =
         bind-holds (trivial _)
         (λ t _. if-holds
-        (λ _. bind-holds (trivial _) (λ u _. bind-holds (try-fits (u .references) (r .entries) (f .fits)) (λ es g. bind-holds (store-fits k u _ es g) (λ fs h. good (record { fits = h })))))
+        (λ _. bind-holds (trivial _) (λ u _. bind-holds (try-fits (u .function-references) (r .entries) (f .fits)) (λ es g. bind-holds (store-fits k u _ es g) (λ fs h. good (record { fits = h })))))
         (λ _. good f))
 
     finalize-fits : (final : Bool) (xs : List Entry) (r : Round) → FitRound r → Holds FitRound (rules.finalize-each im cap final xs r)

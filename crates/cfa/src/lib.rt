@@ -23,7 +23,7 @@ ghost use Rattle.cfa_process.specs.Displayed.{Displays, Displayed};
 ghost use Rattle.cfa_rounds.specs.Ready.{Sane, Ready};
 ghost use Rattle.cfa.specs.Maps.{room-of, Leaves, Told, Counted, Handed, Ended, finished};
 use cfa_entries::Entries;
-use lists::places;
+use function_slices::places;
 
 // 0, or why there is no map; how many entries it has, and how many numbers their lists have.
 pub struct Map {
@@ -33,17 +33,18 @@ pub struct Map {
 }
 
 // "Functions remain that cannot be finalized" (17).
-fn all_finalized(known: &[u64], infos: &[u64], lists: &[u64], n: usize) -> Entries
-    requires good { ⌜ Good n (now known) (now infos) (now lists) ⌝ }
-    ensures { λ r. ⌜ ((im : Image) (cap : rules.Capacity) (es : List Entry) → Holds n (now (known .entry)) (now (infos .entry)) (now (lists .entry)) es → Entered (rules.all-finalized im cap es) (r .count) (now (known .entry)) (now (infos .entry)) (now (lists .entry)) (r .fault)) ⌝ }
+fn all_finalized(known: &[u64], infos: &[u64], lists: &[u64], count: usize) -> Entries
+    requires good { ⌜ Good count (now known) (now infos) (now lists) ⌝ }
+    ensures { λ r.
+        ⌜ ((im : Image) (cap : rules.Capacity) (es : List Entry) →
+        Holds count (now (known .entry)) (now (infos .entry)) (now (lists .entry)) es →
+        Entered (rules.all-finalized im cap es) (r .count) (now (known .entry)) (now (infos .entry))
+        (now (lists .entry)) (r .fault)) ⌝ }
 {
-    if entries::any_unfinalized(known, infos, lists, n) {
-        return Entries {
-            count: n,
-            fault: 17,
-        };
+    if entries::any_unfinalized(known, infos, lists, count) {
+        return Entries { count, fault: 17 };
     }
-    Entries { count: n, fault: 0 }
+    Entries { count, fault: 0 }
 }
 
 // The rounds, and the last rounds, in which possible blocks are taken for a function's own.
@@ -57,14 +58,22 @@ fn finish_rounds(
     known: &mut [u64; entries::KNOWN],
     infos: &mut [u64; entries::INFOS],
     lists: &mut [u64],
-    k: &mut [u64; places::KEYS],
-    v: &mut [u64; places::VALUES],
+    keys: &mut [u64; places::KEYS],
+    values: &mut [u64; places::VALUES],
     code: obj::sections::Code,
-    n: usize,
+    count: usize,
     room: usize,
 ) -> Entries
-    requires ready { ⌜ Ready (now sections) (now bytes) (now outcomes) (now functions) (now objects) (now skips) code n (now known) (now infos) (now lists) ⌝ }
-    ensures { λ r. ⌜ ((l : Lent) (es : List Entry) → Displays l (now (sections .entry)) (now (bytes .entry)) (now (outcomes .entry)) (now (functions .entry)) (now (objects .entry)) (now (skips .entry)) code → Holds n (now (known .entry)) (now (infos .entry)) (now (lists .entry)) es → Sane l es → Entered (finished (image l) (capacity room (now (lists .entry))) es) (r .count) (now (known .exit)) (now (infos .exit)) (now (lists .exit)) (r .fault)) ⌝ }
+    requires ready { ⌜ Ready (now sections) (now bytes) (now outcomes) (now functions) (now objects) (now skips) code count
+        (now known) (now infos) (now lists) ⌝ }
+    ensures { λ r.
+        ⌜ ((l : Lent) (es : List Entry) →
+        Displays l (now (sections .entry)) (now (bytes .entry)) (now (outcomes .entry)) (now (functions .entry))
+        (now (objects .entry)) (now (skips .entry)) code →
+        Holds count (now (known .entry)) (now (infos .entry)) (now (lists .entry)) es →
+        Sane l es →
+        Entered (finished (image l) (capacity room (now (lists .entry))) es) (r .count) (now (known .exit))
+        (now (infos .exit)) (now (lists .exit)) (r .fault)) ⌝ }
 {
     let r = cfa_rounds::process_functions(
         sections,
@@ -76,10 +85,10 @@ fn finish_rounds(
         known,
         infos,
         lists,
-        k,
-        v,
+        keys,
+        values,
         code,
-        n,
+        count,
         room,
     );
     if r.fault != 0 {
@@ -95,8 +104,8 @@ fn finish_rounds(
         known,
         infos,
         lists,
-        k,
-        v,
+        keys,
+        values,
         code,
         r.count,
         room,
@@ -119,14 +128,21 @@ fn detect(
     known: &mut [u64; entries::KNOWN],
     infos: &mut [u64; entries::INFOS],
     lists: &mut [u64],
-    k: &mut [u64; places::KEYS],
-    v: &mut [u64; places::VALUES],
+    keys: &mut [u64; places::KEYS],
+    values: &mut [u64; places::VALUES],
     code: obj::sections::Code,
     room: usize,
 ) -> Entries
-    requires image { ⌜ Handed (now sections) (now bytes) (now outcomes) (now functions) (now objects) (now skips) code (now entry) ⌝ }
+    requires image { ⌜ Handed (now sections) (now bytes) (now outcomes) (now functions) (now objects) (now skips) code
+        (now entry) ⌝ }
     requires sizes { ⌜ (length (now known) ≡ KNOWN) × (length (now infos) ≡ INFOS) ⌝ }
-    ensures { λ r. ⌜ ((l : Lent) → Displays l (now (sections .entry)) (now (bytes .entry)) (now (outcomes .entry)) (now (functions .entry)) (now (objects .entry)) (now (skips .entry)) code → l .entry ≡ now (entry .entry) → Entered (rules.detect (image l) (capacity room (now (lists .entry)))) (r .count) (now (known .exit)) (now (infos .exit)) (now (lists .exit)) (r .fault)) ⌝ }
+    ensures { λ r.
+        ⌜ ((l : Lent) →
+        Displays l (now (sections .entry)) (now (bytes .entry)) (now (outcomes .entry)) (now (functions .entry))
+        (now (objects .entry)) (now (skips .entry)) code →
+        l .entry ≡ now (entry .entry) →
+        Entered (rules.detect (image l) (capacity room (now (lists .entry)))) (r .count) (now (known .exit))
+        (now (infos .exit)) (now (lists .exit)) (r .fault)) ⌝ }
 {
     let r = cfa_rounds::first::walk_given(
         sections,
@@ -139,8 +155,8 @@ fn detect(
         known,
         infos,
         lists,
-        k,
-        v,
+        keys,
+        values,
         code,
         room,
     );
@@ -157,8 +173,8 @@ fn detect(
         known,
         infos,
         lists,
-        k,
-        v,
+        keys,
+        values,
         code,
         r.count,
         room,
@@ -174,7 +190,11 @@ fn put_map(
     lists: &mut [u64],
 ) -> Map
     requires ended { ⌜ Ended (r .count) (now known) (now infos) (now lists) (now rows) (r .fault) ⌝ }
-    ensures { λ q. ⌜ ((a : Answer (List Entry)) → Met a → Entered a (r .count) (now (known .entry)) (now (infos .entry)) (now (lists .entry)) (r .fault) → Leaves a (now (rows .entry)) (now (lists .entry)) (now (rows .exit)) (now (lists .exit)) q) ⌝ }
+    ensures { λ q.
+        ⌜ ((a : Answer (List Entry)) →
+        Met a →
+        Entered a (r .count) (now (known .entry)) (now (infos .entry)) (now (lists .entry)) (r .fault) →
+        Leaves a (now (rows .entry)) (now (lists .entry)) (now (rows .exit)) (now (lists .exit)) q) ⌝ }
 {
     if r.fault != 0 {
         results::clear(rows, 0);
@@ -206,8 +226,15 @@ fn map_checked(
     rows: &mut [u64],
     lists: &mut [u64],
 ) -> Map
-    requires image { ⌜ Handed (now sections) (now bytes) (now outcomes) (now functions) (now objects) (now skips) code (now entry) ⌝ }
-    ensures { λ r. ⌜ ((l : Lent) → Displays l (now (sections .entry)) (now (bytes .entry)) (now (outcomes .entry)) (now (functions .entry)) (now (objects .entry)) (now (skips .entry)) code → l .entry ≡ now (entry .entry) → Leaves (rules.detect (image l) (room-of (now (rows .entry)) (now (lists .entry)))) (now (rows .entry)) (now (lists .entry)) (now (rows .exit)) (now (lists .exit)) r) ⌝ }
+    requires image { ⌜ Handed (now sections) (now bytes) (now outcomes) (now functions) (now objects) (now skips) code
+        (now entry) ⌝ }
+    ensures { λ r.
+        ⌜ ((l : Lent) →
+        Displays l (now (sections .entry)) (now (bytes .entry)) (now (outcomes .entry)) (now (functions .entry))
+        (now (objects .entry)) (now (skips .entry)) code →
+        l .entry ≡ now (entry .entry) →
+        Leaves (rules.detect (image l) (room-of (now (rows .entry)) (now (lists .entry)))) (now (rows .entry))
+        (now (lists .entry)) (now (rows .exit)) (now (lists .exit)) r) ⌝ }
 {
     let mut known: [u64; entries::KNOWN] = [0; entries::KNOWN];
     let mut infos: [u64; entries::INFOS] = [0; entries::INFOS];
@@ -246,8 +273,20 @@ pub fn detect_functions(
     rows: &mut [u64],
     lists: &mut [u64],
 ) -> Map
-    ensures told { λ r. ⌜ Told (run (given (lent (now (sections .entry)) (now (bytes .entry)) (now (outcomes .entry)) (now (functions .entry)) (now (objects .entry)) (now (skips .entry)) (now (entry .entry)))) (room-of (now (rows .entry)) (now (lists .entry)))) (now (rows .entry)) (now (lists .entry)) (now (rows .exit)) (now (lists .exit)) r ⌝ }
-    ensures counted { λ r. ⌜ Counted (image (lent (now (sections .entry)) (now (bytes .entry)) (now (outcomes .entry)) (now (functions .entry)) (now (objects .entry)) (now (skips .entry)) (now (entry .entry)))) (now (rows .exit)) (now (lists .exit)) r ⌝ }
+    ensures told { λ r.
+        ⌜ Told
+        (run
+        (given
+        (lent (now (sections .entry)) (now (bytes .entry)) (now (outcomes .entry)) (now (functions .entry))
+        (now (objects .entry)) (now (skips .entry)) (now (entry .entry))))
+        (room-of (now (rows .entry)) (now (lists .entry))))
+        (now (rows .entry)) (now (lists .entry)) (now (rows .exit)) (now (lists .exit)) r ⌝ }
+    ensures counted { λ r.
+        ⌜ Counted
+        (image
+        (lent (now (sections .entry)) (now (bytes .entry)) (now (outcomes .entry)) (now (functions .entry))
+        (now (objects .entry)) (now (skips .entry)) (now (entry .entry))))
+        (now (rows .exit)) (now (lists .exit)) r ⌝ }
 {
     let n = obj::checks::check(sections, bytes, outcomes, functions, objects, skips, entry);
     if n != 0 {

@@ -17,26 +17,30 @@ ghost use Rattle.cfa_entries.specs.Adding.{Entered};
 ghost use Rattle.cfa_detect.specs.Behind.{Put, IsNews, IsRound};
 
 // The entry behind entry i, or the section's end.
-fn next_entry(known: &[u64], code: obj::sections::Code, n: usize, i: usize) -> u64
-    requires table { ⌜ Kept n (now known) × (i < n) ⌝ }
+fn next_entry(known: &[u64], code: obj::sections::Code, count: usize, i: usize) -> u64
+    requires table { ⌜ Kept count (now known) × (i < count) ⌝ }
     requires low { ⌜ code .number < 16 ⌝ }
-    ensures { λ r. ⌜ ((l : Lent) (cap : rules.Capacity) (b sk : List ℕ) (es : List Entry) → Looks b sk code l → Knows n (now (known .entry)) es → r ≡ first (new-entry (rules.section-end (image l) cap)) (drop (i + 1) es) .entry) ⌝ }
+    ensures { λ r.
+        ⌜ ((l : Lent) (cap : rules.Capacity) (b sk : List ℕ) (es : List Entry) →
+        Looks b sk code l →
+        Knows count (now (known .entry)) es →
+        r ≡ first (new-entry (rules.section-end (image l) cap)) (drop (i + 1) es) .entry) ⌝ }
 {
-    if i + 1 < n {
+    if i + 1 < count {
         return known[i + 1];
     }
     gaps::section_end(code)
 }
 
-// Key k, 0 for none, behind the m others; how many there are then.
-fn put_key(keys: &mut [u64], m: usize, k: u64) -> usize
+// A key, 0 for none, behind the m others; how many there are then.
+fn put_key(keys: &mut [u64], m: usize, key: u64) -> usize
     requires { ⌜ m < length (now keys) ⌝ }
-    ensures { λ r. ⌜ Put (now (keys .entry)) m k (now (keys .exit)) r ⌝ }
+    ensures { λ r. ⌜ Put (now (keys .entry)) m key (now (keys .exit)) r ⌝ }
 {
-    if k == 0 {
+    if key == 0 {
         return m;
     }
-    keys[m] = k;
+    keys[m] = key;
     m + 1
 }
 
@@ -52,19 +56,20 @@ fn new_functions(
     skips: &[u32],
     known: &[u64],
     code: obj::sections::Code,
-    n: usize,
+    count: usize,
     keys: &mut [u64],
 ) -> News
     requires lent { ⌜ InBytes (now bytes) code × Ascending (now skips) ⌝ }
     requires low { ⌜ (code .number < 16) × (0 < code .number) ⌝ }
-    requires table { ⌜ Kept n (now known) ⌝ }
+    requires table { ⌜ Kept count (now known) ⌝ }
     requires room { ⌜ length (now keys) ≡ ENTRIES ⌝ }
-    ensures { λ r. ⌜ IsNews (now (bytes .entry)) (now (skips .entry)) code n (now (known .entry)) (now (keys .exit)) r ⌝ }
+    ensures { λ r.
+        ⌜ IsNews (now (bytes .entry)) (now (skips .entry)) code count (now (known .entry)) (now (keys .exit)) r ⌝ }
 {
     let mut m: usize = 0;
     let mut i: usize = 0;
-    while i < n {
-        let after = next_entry(known, code, n, i);
+    while i < count {
+        let after = next_entry(known, code, count, i);
         let f = gaps::found_behind(bytes, skips, code, known[known::AT_ENDS + i], after);
         if f.fault != 0 {
             return News {
@@ -83,16 +88,20 @@ fn add_entries(
     known: &mut [u64; entries::KNOWN],
     infos: &mut [u64; entries::INFOS],
     lists: &[u64],
-    n: usize,
+    len: usize,
     room: usize,
     keys: &[u64],
     m: usize,
 ) -> cfa_entries::Entries
-    requires good { ⌜ Good n (now known) (now infos) (now lists) ⌝ }
+    requires good { ⌜ Good len (now known) (now infos) (now lists) ⌝ }
     requires keys { ⌜ m ≤ length (now keys) ⌝ }
-    ensures { λ r. ⌜ ((im : Image) (es : List Entry) → Holds n (now (known .entry)) (now (infos .entry)) (now (lists .entry)) es → Entered (rules.add-entries im (capacity room (now (lists .entry))) (take m (now (keys .entry))) es) (r .count) (now (known .exit)) (now (infos .exit)) (now (lists .entry)) (r .fault)) ⌝ }
+    ensures { λ r.
+        ⌜ ((im : Image) (es : List Entry) →
+        Holds len (now (known .entry)) (now (infos .entry)) (now (lists .entry)) es →
+        Entered (rules.add-entries im (capacity room (now (lists .entry))) (take m (now (keys .entry))) es) (r .count)
+        (now (known .exit)) (now (infos .exit)) (now (lists .entry)) (r .fault)) ⌝ }
 {
-    let mut count = n;
+    let mut count = len;
     let mut i: usize = 0;
     while i < m {
         let r = entry_changes::add_entry(known, infos, lists, count, room, keys[i]);
@@ -123,24 +132,29 @@ pub fn detect_new_functions(
     infos: &mut [u64; entries::INFOS],
     lists: &[u64],
     code: obj::sections::Code,
-    n: usize,
+    count: usize,
     room: usize,
 ) -> Detected
     requires lent { ⌜ InBytes (now bytes) code × Ascending (now skips) ⌝ }
     requires low { ⌜ (code .number < 16) × (0 < code .number) ⌝ }
-    requires good { ⌜ Good n (now known) (now infos) (now lists) ⌝ }
-    ensures { λ r. ⌜ ((l : Lent) (es : List Entry) → Looks (now (bytes .entry)) (now (skips .entry)) code l → Holds n (now (known .entry)) (now (infos .entry)) (now (lists .entry)) es → IsRound (rules.detect-new-functions (image l) (capacity room (now (lists .entry))) es) (now (known .exit)) (now (infos .exit)) (now (lists .entry)) r) ⌝ }
+    requires good { ⌜ Good count (now known) (now infos) (now lists) ⌝ }
+    ensures { λ r.
+        ⌜ ((l : Lent) (es : List Entry) →
+        Looks (now (bytes .entry)) (now (skips .entry)) code l →
+        Holds count (now (known .entry)) (now (infos .entry)) (now (lists .entry)) es →
+        IsRound (rules.detect-new-functions (image l) (capacity room (now (lists .entry))) es) (now (known .exit))
+        (now (infos .exit)) (now (lists .entry)) r) ⌝ }
 {
     let mut keys: [u64; known::ENTRIES] = [0; known::ENTRIES];
-    let f = new_functions(bytes, skips, known, code, n, &mut keys);
+    let f = new_functions(bytes, skips, known, code, count, &mut keys);
     if f.fault != 0 {
         return Detected {
-            count: n,
+            count,
             changed: false,
             fault: f.fault,
         };
     }
-    let r = add_entries(known, infos, lists, n, room, &keys, f.count);
+    let r = add_entries(known, infos, lists, count, room, &keys, f.count);
     Detected {
         count: r.count,
         changed: f.count != 0,

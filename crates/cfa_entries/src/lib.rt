@@ -9,8 +9,8 @@ ghost use Rattle.obj_rows.specs.Skips.{Ascending};
 ghost use Rattle.obj.specs.Lent.{Lent, image};
 ghost use Rattle.entries.specs.Table.{Holds, Good, capacity};
 ghost use Rattle.cfa_entries.specs.Adding.{Looks, Looking, Entered};
-ghost use Rattle.lists.specs.Places.{AT-REFERENCES, KEYS};
-use lists::places;
+ghost use Rattle.function_slices.specs.Places.{AT-REFERENCES, KEYS};
+use function_slices::places;
 
 // How many entries there are, and the fault, 0 for none.
 pub struct Entries {
@@ -25,20 +25,25 @@ pub fn try_add_function(
     infos: &mut [u64; entries::INFOS],
     lists: &[u64],
     code: obj::sections::Code,
-    n: usize,
+    count: usize,
     room: usize,
-    k: u64,
+    key: u64,
 ) -> Entries
-    requires good { ⌜ Good n (now known) (now infos) (now lists) ⌝ }
+    requires good { ⌜ Good count (now known) (now infos) (now lists) ⌝ }
     requires order { ⌜ Ascending (now skips) ⌝ }
-    ensures { λ r. ⌜ ((l : Lent) (es : List Entry) → Looks l (now (skips .entry)) code → Holds n (now (known .entry)) (now (infos .entry)) (now (lists .entry)) es → Entered (rules.try-add-function (image l) (capacity room (now (lists .entry))) k es) (r .count) (now (known .exit)) (now (infos .exit)) (now (lists .entry)) (r .fault)) ⌝ }
+    ensures { λ r.
+        ⌜ ((l : Lent) (es : List Entry) →
+        Looks l (now (skips .entry)) code →
+        Holds count (now (known .entry)) (now (infos .entry)) (now (lists .entry)) es →
+        Entered (rules.try-add-function (image l) (capacity room (now (lists .entry))) key es) (r .count)
+        (now (known .exit)) (now (infos .exit)) (now (lists .entry)) (r .fault)) ⌝ }
 {
-    let none = Entries { count: n, fault: 0 };
-    if k / 0x1_0000_0000 == code.number {
-        if obj::skips::in_skipped_range(skips, (k % 0x1_0000_0000) as u32) {
+    let none = Entries { count, fault: 0 };
+    if key / 0x1_0000_0000 == code.number {
+        if obj::skips::in_skipped_range(skips, (key % 0x1_0000_0000) as u32) {
             return none;
         }
-        let r = entry_changes::add_entry(known, infos, lists, n, room, k);
+        let r = entry_changes::add_entry(known, infos, lists, count, room, key);
         return Entries {
             count: r.count,
             fault: r.fault,
@@ -54,18 +59,23 @@ pub fn try_add_functions(
     infos: &mut [u64; entries::INFOS],
     lists: &[u64],
     code: obj::sections::Code,
-    n: usize,
+    count: usize,
     room: usize,
     keys: &[u64],
     m: usize,
 ) -> Entries
-    requires good { ⌜ Good n (now known) (now infos) (now lists) ⌝ }
+    requires good { ⌜ Good count (now known) (now infos) (now lists) ⌝ }
     requires order { ⌜ Ascending (now skips) ⌝ }
     requires image { ⌜ Looking (now skips) code ⌝ }
     requires keys { ⌜ m ≤ length (now keys) ⌝ }
-    ensures { λ r. ⌜ ((l : Lent) (es : List Entry) → Looks l (now (skips .entry)) code → Holds n (now (known .entry)) (now (infos .entry)) (now (lists .entry)) es → Entered (rules.try-add-functions (image l) (capacity room (now (lists .entry))) (take m (now (keys .entry))) es) (r .count) (now (known .exit)) (now (infos .exit)) (now (lists .entry)) (r .fault)) ⌝ }
+    ensures { λ r.
+        ⌜ ((l : Lent) (es : List Entry) →
+        Looks l (now (skips .entry)) code →
+        Holds count (now (known .entry)) (now (infos .entry)) (now (lists .entry)) es →
+        Entered (rules.try-add-functions (image l) (capacity room (now (lists .entry))) (take m (now (keys .entry))) es)
+        (r .count) (now (known .exit)) (now (infos .exit)) (now (lists .entry)) (r .fault)) ⌝ }
 {
-    let mut r = Entries { count: n, fault: 0 };
+    let mut r = Entries { count, fault: 0 };
     let mut i: usize = 0;
     while i < m {
         r = try_add_function(skips, known, infos, lists, code, r.count, room, keys[i]);
@@ -84,18 +94,35 @@ pub fn add_references(
     infos: &mut [u64; entries::INFOS],
     lists: &[u64],
     code: obj::sections::Code,
-    n: usize,
+    count: usize,
     room: usize,
-    k: &[u64],
+    keys: &[u64],
     m: usize,
 ) -> Entries
-    requires good { ⌜ Good n (now known) (now infos) (now lists) ⌝ }
+    requires good { ⌜ Good count (now known) (now infos) (now lists) ⌝ }
     requires order { ⌜ Ascending (now skips) ⌝ }
     requires image { ⌜ Looking (now skips) code ⌝ }
-    requires numbers { ⌜ (length (now k) ≡ KEYS) × (m ≤ length (take 256 (drop AT-REFERENCES (now k)))) ⌝ }
-    ensures { λ r. ⌜ ((l : Lent) (es : List Entry) → Looks l (now (skips .entry)) code → Holds n (now (known .entry)) (now (infos .entry)) (now (lists .entry)) es → Entered (rules.try-add-functions (image l) (capacity room (now (lists .entry))) (take m (take 256 (drop AT-REFERENCES (now (k .entry))))) es) (r .count) (now (known .exit)) (now (infos .exit)) (now (lists .entry)) (r .fault)) ⌝ }
+    requires numbers { ⌜ (length (now keys) ≡ KEYS) × (m ≤ length (take 256 (drop AT-REFERENCES (now keys)))) ⌝ }
+    ensures { λ r.
+        ⌜ ((l : Lent) (es : List Entry) →
+        Looks l (now (skips .entry)) code →
+        Holds count (now (known .entry)) (now (infos .entry)) (now (lists .entry)) es →
+        Entered
+        (rules.try-add-functions (image l) (capacity room (now (lists .entry)))
+        (take m (take 256 (drop AT-REFERENCES (now (keys .entry))))) es)
+        (r .count) (now (known .exit)) (now (infos .exit)) (now (lists .entry)) (r .fault)) ⌝ }
 {
     let a: usize = places::AT_REFERENCES;
     let b: usize = places::AT_TABLES;
-    try_add_functions(skips, known, infos, lists, code, n, room, &k[a..b], m)
+    try_add_functions(
+        skips,
+        known,
+        infos,
+        lists,
+        code,
+        count,
+        room,
+        &keys[a..b],
+        m,
+    )
 }

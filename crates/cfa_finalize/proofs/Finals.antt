@@ -14,9 +14,9 @@ use Rattle.rules.specs.Known.{Entry}
 use Rattle.rules.specs.Settle as settling
 use Rattle.rules.specs.Map as rules
 use Rattle.obj.specs.Lent.{Lent, image}
-use Rattle.lists.specs.View as lists
-use Rattle.lists.specs.View.{view, Fit, part}
-use Rattle.lists.specs.declared.Small.{Small}
+use Rattle.function_slices.specs.View as lists
+use Rattle.function_slices.specs.View.{view, Fit, part}
+use Rattle.function_slices.specs.declared.Small.{Small}
 use Rattle.stored.proofs.Columns.{possible-fit}
 use Rattle.walk.specs.State.{Low, Listed}
 use Rattle.entries.specs.Table.{Holds, Good}
@@ -24,7 +24,7 @@ use Rattle.cfa_process.specs.Displayed.{Knowing}
 use Rattle.cfa_detect.specs.declared.Detected.{Detected}
 use Rattle.cfa_finalize.specs.Turns.{Ready, lowest, settled-lists, Turned}
 use Rattle.rules.proofs.Binds.{bind-assoc}
-use Rattle.lists.specs.Places.{POSSIBLE, AT-POSSIBLE}
+use Rattle.function_slices.specs.Places.{POSSIBLE, AT-POSSIBLE}
 
 -- ---- the entries that there are
 
@@ -50,22 +50,22 @@ module _ (x : Slices) (k₀ k v : List ℕ) (s : Small) (i : lists.Is (ok x) k�
 -- ---- by what is left possible
 
 module _ (k v : List ℕ) (s : Small) where
-  none-possible : s .possible ≡ 0 → empty (view k v s .possible) ≡ true
+  none-possible : s .«possible_blocks» ≡ 0 → empty (view k v s .possible-blocks) ≡ true
   unfolding view
   none-possible h = rw h refl
 
-  some-possible : Fit k v s → (s .possible ≡ 0 → ⊥) → empty (view k v s .possible) ≡ false
+  some-possible : Fit k v s → (s .«possible_blocks» ≡ 0 → ⊥) → empty (view k v s .possible-blocks) ≡ false
   unfolding view
-  some-possible fit h = by (take (s .possible) (part AT-POSSIBLE POSSIBLE k)) (length-take-le (s .possible) (part AT-POSSIBLE POSSIBLE k) (possible-fit k v s fit))
+  some-possible fit h = by (take (s .«possible_blocks») (part AT-POSSIBLE POSSIBLE k)) (length-take-le (s .«possible_blocks») (part AT-POSSIBLE POSSIBLE k) (possible-fit k v s fit))
     where
-      by : (l : List ℕ) → length l ≡ s .possible → empty l ≡ false
+      by : (l : List ℕ) → length l ≡ s .«possible_blocks» → empty l ≡ false
       by [] e = absurd (h (sym e))
       by (x ∷ l) e = refl
 
 module _ (l : Lent) (cap : rules.Capacity) (last : Bool) (key : ℕ) (x : Slices) (es : List Entry) (c : Bool) (k v : List ℕ) (t : Small) (f : Listed (settled-lists (image l) cap last key x es) k v t) where
   -- the lists, once they are settled
   abbrev then : Slices → Answer rules.Round
-  then y = if (empty (y .possible)) (rules.keep-settled (image l) cap key y (rules.round c es)) (ok (rules.round c es))
+  then y = if (empty (y .possible-blocks)) (rules.keep-settled (image l) cap key y (rules.round c es)) (ok (rules.round c es))
 
   split : rules.finalize-function (image l) cap last key x (rules.round c es) ≡ (settled-lists (image l) cap last key x es >>= then)
   unfolding rules.finalize-function _>>=_
@@ -84,10 +84,10 @@ module _ (l : Lent) (cap : rules.Capacity) (last : Bool) (key : ℕ) (x : Slices
         let q : settled-lists (image l) cap last key x es ≡ ok (view k v t) = f .is ∙ if-true (eq-eqb _ _ z) _ _ in
         split ∙ ap (λ (a : Answer Slices). a >>= then) q
 
-    pub settling-keeps : t .possible ≡ 0 → (known infos lists : List ℕ) (r : Detected) → Turned (rules.keep-settled (image l) cap key (view k v t) (rules.round c es)) known infos lists r → Turned (rules.finalize-function (image l) cap last key x (rules.round c es)) known infos lists r
+    pub settling-keeps : t .«possible_blocks» ≡ 0 → (known infos lists : List ℕ) (r : Detected) → Turned (rules.keep-settled (image l) cap key (view k v t) (rules.round c es)) known infos lists r → Turned (rules.finalize-function (image l) cap last key x (rules.round c es)) known infos lists r
     settling-keeps h known infos lists r u = rw (goes-on ∙ if-true (none-possible k v t h) _ _) u
 
-    pub settling-stays : (t .possible ≡ 0 → ⊥) → (n : ℕ) (known infos lists : List ℕ) → Holds n known infos lists es → Turned (rules.finalize-function (image l) cap last key x (rules.round c es)) known infos lists (record { count = n; changed = c; fault = 0 })
+    pub settling-stays : (t .«possible_blocks» ≡ 0 → ⊥) → (n : ℕ) (known infos lists : List ℕ) → Holds n known infos lists es → Turned (rules.finalize-function (image l) cap last key x (rules.round c es)) known infos lists (record { count = n; changed = c; fault = 0 })
     settling-stays h n known infos lists g =
         record {
           goes = λ _. record { entries = es; is = goes-on ∙ if-false (some-possible k v t (f .fit z) h) _ _; holds = g };

@@ -16,8 +16,8 @@ use Rattle.rules.specs.Map as rules
 use Rattle.rules.proofs.Binds.{bind-assoc}
 use Rattle.rules.proofs.Faults.{Met, store-met}
 use Rattle.obj.specs.Lent.{Lent, image}
-use Rattle.lists.specs.View.{view, Fit, part}
-use Rattle.lists.specs.declared.Small.{Small}
+use Rattle.function_slices.specs.View.{view, Fit, part}
+use Rattle.function_slices.specs.declared.Small.{Small}
 use Rattle.walk.specs.State.{Listed}
 use Rattle.entries.specs.Table.{Told, capacity}
 use Rattle.cfa_entries.specs.Adding.{Entered}
@@ -25,32 +25,32 @@ use Rattle.cfa_entries.proofs.Each.{Gone, gone, lost}
 use Rattle.cfa_entries.proofs.Keys.{keys-met}
 use Rattle.cfa_process.proofs.Keeping.{added}
 use Rattle.cfa_finalize.specs.Turns.{kept, Turned}
-use Rattle.lists.specs.Places.{AT-REFERENCES}
+use Rattle.function_slices.specs.Places.{AT-REFERENCES}
 
 -- ---- what it refers to, and the function itself
 
 module _ (l : Lent) (room : ℕ) (k v : List ℕ) (s : Small) (fit : Fit k v s) (es : List Entry) (lists : List ℕ) (n : ℕ) (known infos : List ℕ) (f : ℕ)
-    (r : Entered (rules.try-add-functions (image l) (capacity room lists) (take (s .references) (take 256 (drop AT-REFERENCES k))) es) n known infos lists f) where
-  same-keys : view k v s .references ≡ take (s .references) (take 256 (drop AT-REFERENCES k))
+    (r : Entered (rules.try-add-functions (image l) (capacity room lists) (take (s .«function_references») (take 256 (drop AT-REFERENCES k))) es) n known infos lists f) where
+  same-keys : view k v s .function-references ≡ take (s .«function_references») (take 256 (drop AT-REFERENCES k))
   unfolding view part
   same-keys = refl
 
   pub refers-fail : (key : ℕ) → (f ≡ 0 → ⊥) → Entered (kept (image l) (capacity room lists) key (view k v s) es) n known infos lists f
   unfolding _>>=_
   refers-fail key h =
-      let q : rules.try-add-functions (image l) (capacity room lists) (view k v s .references) es ≡ fault f = ap (λ (ks : List ℕ). rules.try-add-functions (image l) (capacity room lists) ks es) same-keys ∙ lost n known infos lists f _ (r .told) h in
+      let q : rules.try-add-functions (image l) (capacity room lists) (view k v s .function-references) es ≡ fault f = ap (λ (ks : List ℕ). rules.try-add-functions (image l) (capacity room lists) ks es) same-keys ∙ lost n known infos lists f _ (r .told) h in
       rw q (record { told = refl })
 
   pub refers-kept : (z : f ≡ 0) (key end n′ : ℕ) (known′ infos′ lists′ : List ℕ) (g : ℕ) → end ≡ last-end (view k v s .blocks) → Told (rules.store (capacity room lists) key (view k v s) end (added l room k v s fit es lists n known infos f r z .entries)) n′ known′ infos′ lists′ g → Entered (kept (image l) (capacity room lists) key (view k v s) es) n′ known′ infos′ lists′ g
   unfolding _>>=_
   refers-kept z key end n′ known′ infos′ lists′ g e t =
-      let q : rules.try-add-functions (image l) (capacity room lists) (view k v s .references) es ≡ ok (added l room k v s fit es lists n known infos f r z .entries) = ap (λ (ks : List ℕ). rules.try-add-functions (image l) (capacity room lists) ks es) same-keys ∙ added l room k v s fit es lists n known infos f r z .is in
+      let q : rules.try-add-functions (image l) (capacity room lists) (view k v s .function-references) es ≡ ok (added l room k v s fit es lists n known infos f r z .entries) = ap (λ (ks : List ℕ). rules.try-add-functions (image l) (capacity room lists) ks es) same-keys ∙ added l room k v s fit es lists n known infos f r z .is in
       rw q (record { told = rw e at t })
 
 -- ---- finalized
 
 kept-met : (im : Image) (cap : rules.Capacity) (k : ℕ) (t : Slices) (es : List Entry) → Met (kept im cap k t es)
-kept-met im cap k t es = bind-fails (keys-met im cap (t .references) es) (λ fs. store-met im cap k t (last-end (t .blocks)) fs)
+kept-met im cap k t es = bind-fails (keys-met im cap (t .function-references) es) (λ fs. store-met im cap k t (last-end (t .blocks)) fs)
 
 module _ (l : Lent) (cap : rules.Capacity) (key : ℕ) (x : Slices) (es : List Entry) (c : Bool) (k v : List ℕ) (t : Small) (f : Listed (finalize (image l) es x) k v t) where
   pub final-fails : (n : ℕ) (known infos lists : List ℕ) → (t .fault ≡ 0 → ⊥) → Turned (rules.keep-settled (image l) cap key x (rules.round c es)) known infos lists (record { count = n; changed = false; fault = t .fault })
@@ -64,7 +64,7 @@ module _ (l : Lent) (cap : rules.Capacity) (key : ℕ) (x : Slices) (es : List E
     unfolding rules.keep-settled _>>=_
     stores =
         let q : finalize (image l) es x ≡ ok (view k v t) = f .is ∙ if-true (eq-eqb _ _ z) _ _ in
-        rw q (sym (bind-assoc (rules.try-add-functions (image l) cap (view k v t .references) es) (λ fs. rules.store cap key (view k v t) (last-end (view k v t .blocks)) fs) (λ fs. ok (rules.round true fs))))
+        rw q (sym (bind-assoc (rules.try-add-functions (image l) cap (view k v t .function-references) es) (λ fs. rules.store cap key (view k v t) (last-end (view k v t .blocks)) fs) (λ fs. ok (rules.round true fs))))
 
     pub final-kept : (n : ℕ) (known infos lists : List ℕ) (g : ℕ) → Entered (kept (image l) cap key (view k v t) es) n known infos lists g → Turned (rules.keep-settled (image l) cap key x (rules.round c es)) known infos lists (record { count = n; changed = true; fault = g })
     unfolding _>>=_

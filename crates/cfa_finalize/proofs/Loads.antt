@@ -14,7 +14,7 @@ use Rattle.rules.specs.Known.{Entry, entryOf, new-entry}
 use Rattle.rules.proofs.Rows.{Among, among-above}
 use Rattle.ordered.specs.Part.{IsFound}
 use Rattle.ordered.specs.declared.Found.{Found}
-use Rattle.lists.specs.View.{part}
+use Rattle.function_slices.specs.View.{part}
 use Rattle.entries.specs.Table.{Holds}
 use Rattle.entries.proofs.Rows.{count-is}
 use Rattle.entries.proofs.Lookups.{place-is}

@@ -14,7 +14,7 @@ use Rattle.rules.specs.Settle as settling
 use Rattle.rules.specs.Map as rules
 use Rattle.obj.specs.Lent.{Lent, image}
 use Rattle.obj.specs.declared.sections.Code.{Code}
-use Rattle.lists.specs.View.{view}
+use Rattle.function_slices.specs.View.{view}
 use Rattle.known.specs.Table.{Kept, Knows}
 use Rattle.walk.specs.State.{Listed}
 use Rattle.callback_around.specs.declared.around.Around.{Around}

@@ -72,7 +72,7 @@ module _ (x : Entry) where
   unfolding rules.keep-settled
   keep-stays im cap k s r n h =
       bind-holds (trivial _)
-      (λ t _. bind-holds (try-stays im cap (t .references) (r .entries) h)
+      (λ t _. bind-holds (try-stays im cap (t .function-references) (r .entries) h)
       (λ es p. bind-holds (store-stays cap k t (last-end (t .blocks)) es n (p .within)) (λ fs q. good (record { within = q .within }))))
 
   pub finalize-stays : (im : Image) (cap : rules.Capacity) (last : Bool) (k : ℕ) (s : Slices) (r : rules.Round) → (k ≡ x .entry → ⊥) → In x (r .entries) → Holds StaysIn (rules.finalize-function im cap last k s r)

@@ -43,7 +43,7 @@ pub record Ready (n : ℕ) (known infos lists : List ℕ) (k : ℕ) : Type 0 whe
 
 -- what a finalized function refers to is added, and the function is stored with its end
 abbrev pub kept : Image → Capacity → ℕ → Slices → List Entry → Answer (List Entry)
-kept im cap k t es = try-add-functions im cap (t .references) es >>= λ fs. store cap k t (last-end (t .blocks)) fs
+kept im cap k t es = try-add-functions im cap (t .function-references) es >>= λ fs. store cap k t (last-end (t .blocks)) fs
 
 -- the lowest address of the section of k
 abbrev pub lowest : ℕ → ℕ

@@ -15,23 +15,25 @@ ghost use Rattle.cfa_detect.specs.Behind.{IsRound};
 ghost use Rattle.cfa_finalize.specs.Near.{Near, Noted, AreNoted};
 ghost use Rattle.known.specs.Table.{ENTRIES};
 use cfa_detect::Detected;
-use lists::places;
+use function_slices::places;
 
 // The key of entry i behind the m others, if the entry has lists and no end; how many there are then.
 fn put_unfinalized(
     known: &[u64],
     infos: &[u64],
     lists: &[u64],
-    n: usize,
+    count: usize,
     i: usize,
     keys: &mut [u64],
     m: usize,
 ) -> usize
-    requires table { ⌜ Good n (now known) (now infos) (now lists) × (i < n) ⌝ }
+    requires table { ⌜ Good count (now known) (now infos) (now lists) × (i < count) ⌝ }
     requires room { ⌜ m < length (now keys) ⌝ }
-    ensures { λ r. ⌜ Noted n (now (known .entry)) (now (infos .entry)) (now (lists .entry)) i (now (keys .entry)) m (now (keys .exit)) r ⌝ }
+    ensures { λ r.
+        ⌜ Noted count (now (known .entry)) (now (infos .entry)) (now (lists .entry)) i (now (keys .entry)) m
+        (now (keys .exit)) r ⌝ }
 {
-    if entries::is_unfinalized(known, infos, lists, n, i) {
+    if entries::is_unfinalized(known, infos, lists, count, i) {
         keys[m] = known[i];
         return m + 1;
     }
@@ -39,21 +41,22 @@ fn put_unfinalized(
 }
 
 // The keys of the entries that have lists and no end; how many there are.
-fn unfinalized(known: &[u64], infos: &[u64], lists: &[u64], n: usize, keys: &mut [u64]) -> usize
-    requires table { ⌜ Good n (now known) (now infos) (now lists) ⌝ }
+fn unfinalized(known: &[u64], infos: &[u64], lists: &[u64], count: usize, keys: &mut [u64]) -> usize
+    requires table { ⌜ Good count (now known) (now infos) (now lists) ⌝ }
     requires room { ⌜ length (now keys) ≡ ENTRIES ⌝ }
-    ensures { λ r. ⌜ AreNoted n (now (known .entry)) (now (infos .entry)) (now (lists .entry)) (now (keys .exit)) r ⌝ }
+    ensures { λ r.
+        ⌜ AreNoted count (now (known .entry)) (now (infos .entry)) (now (lists .entry)) (now (keys .exit)) r ⌝ }
 {
     let mut m: usize = 0;
     let mut i: usize = 0;
-    while i < n {
-        m = put_unfinalized(known, infos, lists, n, i, keys, m);
+    while i < count {
+        m = put_unfinalized(known, infos, lists, count, i, keys, m);
         i += 1;
     }
     m
 }
 
-// The functions at the first m of the keys are finalized, one after the other. Others may be added in between, so each is looked up.
+// The functions at the first m keys of `todo` are finalized, one after the other. Others may be added in between, so each is looked up.
 fn finalize_each(
     sections: &[u32],
     bytes: &[u8],
@@ -64,21 +67,31 @@ fn finalize_each(
     known: &mut [u64; entries::KNOWN],
     infos: &mut [u64; entries::INFOS],
     lists: &mut [u64],
-    k: &mut [u64; places::KEYS],
-    v: &mut [u64; places::VALUES],
+    keys: &mut [u64; places::KEYS],
+    values: &mut [u64; places::VALUES],
     code: obj::sections::Code,
-    n: usize,
+    len: usize,
     room: usize,
     last: bool,
-    keys: &[u64],
+    todo: &[u64],
     m: usize,
 ) -> Detected
     requires image { ⌜ Displayed (now sections) (now bytes) (now outcomes) (now functions) (now objects) (now skips) code ⌝ }
-    requires near { ⌜ Near n (now known) (now infos) (now lists) ⌝ }
-    requires keys { ⌜ (m ≤ ENTRIES) × (m ≤ length (now keys)) × ((es : List Entry) → Holds n (now known) (now infos) (now lists) es → take m (now keys) ≡ map entryOf (filter is-unfinalized es)) ⌝ }
-    ensures { λ r. ⌜ ((l : Lent) (es : List Entry) → Displays l (now (sections .entry)) (now (bytes .entry)) (now (outcomes .entry)) (now (functions .entry)) (now (objects .entry)) (now (skips .entry)) code → Holds n (now (known .entry)) (now (infos .entry)) (now (lists .entry)) es → IsRound (rules.finalize-functions (image l) (capacity room (now (lists .entry))) last es) (now (known .exit)) (now (infos .exit)) (now (lists .exit)) r) ⌝ }
+    requires near { ⌜ Near len (now known) (now infos) (now lists) ⌝ }
+    requires keys { ⌜ (m ≤ ENTRIES) ×
+        (m ≤ length (now todo)) ×
+        ((es : List Entry) →
+        Holds len (now known) (now infos) (now lists) es →
+        take m (now todo) ≡ map entryOf (filter is-unfinalized es)) ⌝ }
+    ensures { λ r.
+        ⌜ ((l : Lent) (es : List Entry) →
+        Displays l (now (sections .entry)) (now (bytes .entry)) (now (outcomes .entry)) (now (functions .entry))
+        (now (objects .entry)) (now (skips .entry)) code →
+        Holds len (now (known .entry)) (now (infos .entry)) (now (lists .entry)) es →
+        IsRound (rules.finalize-functions (image l) (capacity room (now (lists .entry))) last es) (now (known .exit))
+        (now (infos .exit)) (now (lists .exit)) r) ⌝ }
 {
-    let mut count = n;
+    let mut count = len;
     let mut changed = false;
     let mut i: usize = 0;
     while i < m {
@@ -92,13 +105,13 @@ fn finalize_each(
             known,
             infos,
             lists,
-            k,
-            v,
+            keys,
+            values,
             code,
             count,
             room,
             last,
-            keys[i],
+            todo[i],
             changed,
         );
         if r.fault != 0 {
@@ -127,20 +140,26 @@ pub fn finalize_functions(
     known: &mut [u64; entries::KNOWN],
     infos: &mut [u64; entries::INFOS],
     lists: &mut [u64],
-    k: &mut [u64; places::KEYS],
-    v: &mut [u64; places::VALUES],
+    keys: &mut [u64; places::KEYS],
+    values: &mut [u64; places::VALUES],
     code: obj::sections::Code,
-    n: usize,
+    count: usize,
     room: usize,
     last: bool,
 ) -> Detected
     requires image { ⌜ Displayed (now sections) (now bytes) (now outcomes) (now functions) (now objects) (now skips) code ⌝ }
-    requires good { ⌜ Good n (now known) (now infos) (now lists) ⌝ }
-    requires near { ⌜ Near n (now known) (now infos) (now lists) ⌝ }
-    ensures { λ r. ⌜ ((l : Lent) (es : List Entry) → Displays l (now (sections .entry)) (now (bytes .entry)) (now (outcomes .entry)) (now (functions .entry)) (now (objects .entry)) (now (skips .entry)) code → Holds n (now (known .entry)) (now (infos .entry)) (now (lists .entry)) es → IsRound (rules.finalize-functions (image l) (capacity room (now (lists .entry))) last es) (now (known .exit)) (now (infos .exit)) (now (lists .exit)) r) ⌝ }
+    requires good { ⌜ Good count (now known) (now infos) (now lists) ⌝ }
+    requires near { ⌜ Near count (now known) (now infos) (now lists) ⌝ }
+    ensures { λ r.
+        ⌜ ((l : Lent) (es : List Entry) →
+        Displays l (now (sections .entry)) (now (bytes .entry)) (now (outcomes .entry)) (now (functions .entry))
+        (now (objects .entry)) (now (skips .entry)) code →
+        Holds count (now (known .entry)) (now (infos .entry)) (now (lists .entry)) es →
+        IsRound (rules.finalize-functions (image l) (capacity room (now (lists .entry))) last es) (now (known .exit))
+        (now (infos .exit)) (now (lists .exit)) r) ⌝ }
 {
-    let mut keys: [u64; known::ENTRIES] = [0; known::ENTRIES];
-    let m = unfinalized(known, infos, lists, n, &mut keys);
+    let mut todo: [u64; known::ENTRIES] = [0; known::ENTRIES];
+    let m = unfinalized(known, infos, lists, count, &mut todo);
     finalize_each(
         sections,
         bytes,
@@ -151,13 +170,13 @@ pub fn finalize_functions(
         known,
         infos,
         lists,
-        k,
-        v,
+        keys,
+        values,
         code,
-        n,
+        count,
         room,
         last,
-        &keys,
+        &todo,
         m,
     )
 }

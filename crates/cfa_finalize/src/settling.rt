@@ -9,7 +9,7 @@ ghost use Rattle.rules.specs.Known.{Entry};
 ghost use Rattle.rules.specs.Map as rules;
 ghost use Rattle.obj.specs.Lent.{Lent, image};
 ghost use Rattle.obj_rows.specs.Skips.{Ascending};
-ghost use Rattle.lists.specs.View.{view, Fit, Is};
+ghost use Rattle.function_slices.specs.View.{view, Fit, Is};
 ghost use Rattle.walk.specs.State.{Low, Listed};
 ghost use Rattle.known.specs.Table.{Knows};
 ghost use Rattle.entries.specs.Table.{Holds, Good, capacity};
@@ -19,7 +19,7 @@ ghost use Rattle.cfa_process.specs.Displayed.{Displays, Displayed, Knowing};
 ghost use Rattle.cfa_finalize.specs.Turns.{Owns, Ready, kept, settled-lists, Turned};
 use cfa_detect::Detected;
 use cfa_entries::Entries;
-use lists::places;
+use function_slices::places;
 
 // What the finalized function refers to becomes an entry; then the function is stored with its end.
 fn keep_final(
@@ -27,26 +27,54 @@ fn keep_final(
     known: &mut [u64; entries::KNOWN],
     infos: &mut [u64; entries::INFOS],
     lists: &mut [u64],
-    k: &[u64],
-    v: &[u64],
+    keys: &[u64],
+    values: &[u64],
     code: obj::sections::Code,
-    n: usize,
+    count: usize,
     room: usize,
     key: u64,
-    s: lists::Small,
+    slices: function_slices::Small,
 ) -> Entries
-    requires good { ⌜ Good n (now known) (now infos) (now lists) ⌝ }
-    requires fit { ⌜ Fit (now k) (now v) s ⌝ }
+    requires good { ⌜ Good count (now known) (now infos) (now lists) ⌝ }
+    requires fit { ⌜ Fit (now keys) (now values) slices ⌝ }
     requires order { ⌜ Ascending (now skips) ⌝ }
     requires image { ⌜ Looking (now skips) code ⌝ }
-    ensures { λ r. ⌜ ((l : Lent) (es : List Entry) → Looks l (now (skips .entry)) code → Holds n (now (known .entry)) (now (infos .entry)) (now (lists .entry)) es → Entered (kept (image l) (capacity room (now (lists .entry))) key (view (now (k .entry)) (now (v .entry)) s) es) (r .count) (now (known .exit)) (now (infos .exit)) (now (lists .exit)) (r .fault)) ⌝ }
+    ensures { λ r.
+        ⌜ ((l : Lent) (es : List Entry) →
+        Looks l (now (skips .entry)) code →
+        Holds count (now (known .entry)) (now (infos .entry)) (now (lists .entry)) es →
+        Entered
+        (kept (image l) (capacity room (now (lists .entry))) key (view (now (keys .entry)) (now (values .entry)) slices)
+        es)
+        (r .count) (now (known .exit)) (now (infos .exit)) (now (lists .exit)) (r .fault)) ⌝ }
 {
-    let r = cfa_entries::add_references(skips, known, infos, lists, code, n, room, k, s.references);
+    let r = cfa_entries::add_references(
+        skips,
+        known,
+        infos,
+        lists,
+        code,
+        count,
+        room,
+        keys,
+        slices.function_references,
+    );
     if r.fault != 0 {
         return r;
     }
-    let end = lists::last_end(k, v, s);
-    let t = entry_changes::store(known, infos, lists, r.count, room, key, end, k, v, s);
+    let end = function_slices::last_end(keys, values, slices);
+    let t = entry_changes::store(
+        known,
+        infos,
+        lists,
+        r.count,
+        room,
+        key,
+        end,
+        keys,
+        values,
+        slices,
+    );
     Entries {
         count: t.count,
         fault: t.fault,
@@ -61,28 +89,47 @@ fn keep_settled(
     known: &mut [u64; entries::KNOWN],
     infos: &mut [u64; entries::INFOS],
     lists: &mut [u64],
-    k: &mut [u64; places::KEYS],
-    v: &mut [u64; places::VALUES],
+    keys: &mut [u64; places::KEYS],
+    values: &mut [u64; places::VALUES],
     code: obj::sections::Code,
-    n: usize,
+    count: usize,
     room: usize,
     key: u64,
-    s: lists::Small,
+    slices: function_slices::Small,
 ) -> Detected
-    requires good { ⌜ Good n (now known) (now infos) (now lists) ⌝ }
-    requires fit { ⌜ Fit (now k) (now v) s × (s .fault ≡ 0) ⌝ }
+    requires good { ⌜ Good count (now known) (now infos) (now lists) ⌝ }
+    requires fit { ⌜ Fit (now keys) (now values) slices × (slices .fault ≡ 0) ⌝ }
     requires image { ⌜ Shown (now sections) (now bytes) (now skips) code ⌝ }
-    ensures { λ r. ⌜ ((l : Lent) (es : List Entry) (c : Bool) → Shows l (now (sections .entry)) (now (bytes .entry)) (now (skips .entry)) code → Holds n (now (known .entry)) (now (infos .entry)) (now (lists .entry)) es → Turned (rules.keep-settled (image l) (capacity room (now (lists .entry))) key (view (now (k .entry)) (now (v .entry)) s) (rules.round c es)) (now (known .exit)) (now (infos .exit)) (now (lists .exit)) r) ⌝ }
+    ensures { λ r.
+        ⌜ ((l : Lent) (es : List Entry) (c : Bool) →
+        Shows l (now (sections .entry)) (now (bytes .entry)) (now (skips .entry)) code →
+        Holds count (now (known .entry)) (now (infos .entry)) (now (lists .entry)) es →
+        Turned
+        (rules.keep-settled (image l) (capacity room (now (lists .entry))) key
+        (view (now (keys .entry)) (now (values .entry)) slices) (rules.round c es))
+        (now (known .exit)) (now (infos .exit)) (now (lists .exit)) r) ⌝ }
 {
-    let t = finalize::finalize(sections, bytes, known, k, v, code, n, s);
+    let t = finalize::finalize(sections, bytes, known, keys, values, code, count, slices);
     if t.fault != 0 {
         return Detected {
-            count: n,
+            count,
             changed: false,
             fault: t.fault,
         };
     }
-    let r = keep_final(skips, known, infos, lists, k, v, code, n, room, key, t);
+    let r = keep_final(
+        skips,
+        known,
+        infos,
+        lists,
+        keys,
+        values,
+        code,
+        count,
+        room,
+        key,
+        t,
+    );
     Detected {
         count: r.count,
         changed: true,
@@ -95,18 +142,22 @@ fn load_at(
     known: &[u64],
     infos: &[u64],
     lists: &[u64],
-    k: &mut [u64; places::KEYS],
-    v: &mut [u64; places::VALUES],
-    n: usize,
+    keys: &mut [u64; places::KEYS],
+    values: &mut [u64; places::VALUES],
+    count: usize,
     key: u64,
-) -> lists::Small
-    requires ready { ⌜ Ready n (now known) (now infos) (now lists) key ⌝ }
-    ensures { λ r. ⌜ ((es : List Entry) (s : Slices) → Holds n (now (known .entry)) (now (infos .entry)) (now (lists .entry)) es → Owns es key s → Is (ok s) (now (k .entry)) (now (k .exit)) (now (v .exit)) r) ⌝ }
+) -> function_slices::Small
+    requires ready { ⌜ Ready count (now known) (now infos) (now lists) key ⌝ }
+    ensures { λ r.
+        ⌜ ((es : List Entry) (s : Slices) →
+        Holds count (now (known .entry)) (now (infos .entry)) (now (lists .entry)) es →
+        Owns es key s →
+        Is (ok s) (now (keys .entry)) (now (keys .exit)) (now (values .exit)) r) ⌝ }
 {
     let a: usize = 0;
     let b: usize = known::AT_ENDS;
-    let f = ordered::find(&known[a..b], n, key);
-    entries::load(known, infos, lists, n, f.at, k, v)
+    let f = ordered::find(&known[a..b], count, key);
+    entries::load(known, infos, lists, count, f.at, keys, values)
 }
 
 // The possible blocks of the function at key are settled, from the lowest address of its section on; last: whether this is the last pass.
@@ -118,27 +169,33 @@ fn settle_lists(
     objects: &[u32],
     skips: &[u32],
     known: &[u64],
-    k: &mut [u64; places::KEYS],
-    v: &mut [u64; places::VALUES],
+    keys: &mut [u64; places::KEYS],
+    values: &mut [u64; places::VALUES],
     code: obj::sections::Code,
-    n: usize,
+    count: usize,
     key: u64,
-    s: lists::Small,
+    slices: function_slices::Small,
     last: bool,
-) -> lists::Small
+) -> function_slices::Small
     requires image { ⌜ Displayed (now sections) (now bytes) (now outcomes) (now functions) (now objects) (now skips) code ⌝ }
-    requires entries { ⌜ Knowing n (now known) ⌝ }
-    requires fit { ⌜ Fit (now k) (now v) s × (s .fault ≡ 0) ⌝ }
-    requires low { ⌜ Low (first-start (view (now k) (now v) s .blocks)) ⌝ }
-    ensures { λ r. ⌜ ((l : Lent) (cap : rules.Capacity) (es : List Entry) → Displays l (now (sections .entry)) (now (bytes .entry)) (now (outcomes .entry)) (now (functions .entry)) (now (objects .entry)) (now (skips .entry)) code → Knows n (now (known .entry)) es → Listed (settled-lists (image l) cap last key (view (now (k .entry)) (now (v .entry)) s) es) (now (k .exit)) (now (v .exit)) r) ⌝ }
+    requires entries { ⌜ Knowing count (now known) ⌝ }
+    requires fit { ⌜ Fit (now keys) (now values) slices × (slices .fault ≡ 0) ⌝ }
+    requires low { ⌜ Low (first-start (view (now keys) (now values) slices .blocks)) ⌝ }
+    ensures { λ r.
+        ⌜ ((l : Lent) (cap : rules.Capacity) (es : List Entry) →
+        Displays l (now (sections .entry)) (now (bytes .entry)) (now (outcomes .entry)) (now (functions .entry))
+        (now (objects .entry)) (now (skips .entry)) code →
+        Knows count (now (known .entry)) es →
+        Listed (settled-lists (image l) cap last key (view (now (keys .entry)) (now (values .entry)) slices) es)
+        (now (keys .exit)) (now (values .exit)) r) ⌝ }
 {
-    let start = lists::first_start(k, v, s);
-    let end = lists::last_end(k, v, s);
+    let start = function_slices::first_start(keys, values, slices);
+    let end = function_slices::last_end(keys, values, slices);
     let low = key / 0x1_0000_0000 * 0x1_0000_0000;
     let a = callback::around::Around {
         start,
         end,
-        known: n,
+        known: count,
         code,
     };
     let t = settle::settle_all(
@@ -148,10 +205,10 @@ fn settle_lists(
         functions,
         objects,
         known,
-        k,
-        v,
+        keys,
+        values,
         a,
-        s,
+        slices,
         low,
         last,
     );
@@ -170,20 +227,28 @@ pub fn finalize_function(
     known: &mut [u64; entries::KNOWN],
     infos: &mut [u64; entries::INFOS],
     lists: &mut [u64],
-    k: &mut [u64; places::KEYS],
-    v: &mut [u64; places::VALUES],
+    keys: &mut [u64; places::KEYS],
+    values: &mut [u64; places::VALUES],
     code: obj::sections::Code,
-    n: usize,
+    count: usize,
     room: usize,
     last: bool,
     key: u64,
     changed: bool,
 ) -> Detected
     requires image { ⌜ Displayed (now sections) (now bytes) (now outcomes) (now functions) (now objects) (now skips) code ⌝ }
-    requires ready { ⌜ Ready n (now known) (now infos) (now lists) key ⌝ }
-    ensures { λ r. ⌜ ((l : Lent) (es : List Entry) (s : Slices) → Displays l (now (sections .entry)) (now (bytes .entry)) (now (outcomes .entry)) (now (functions .entry)) (now (objects .entry)) (now (skips .entry)) code → Holds n (now (known .entry)) (now (infos .entry)) (now (lists .entry)) es → Owns es key s → Turned (rules.finalize-function (image l) (capacity room (now (lists .entry))) last key s (rules.round changed es)) (now (known .exit)) (now (infos .exit)) (now (lists .exit)) r) ⌝ }
+    requires ready { ⌜ Ready count (now known) (now infos) (now lists) key ⌝ }
+    ensures { λ r.
+        ⌜ ((l : Lent) (es : List Entry) (s : Slices) →
+        Displays l (now (sections .entry)) (now (bytes .entry)) (now (outcomes .entry)) (now (functions .entry))
+        (now (objects .entry)) (now (skips .entry)) code →
+        Holds count (now (known .entry)) (now (infos .entry)) (now (lists .entry)) es →
+        Owns es key s →
+        Turned
+        (rules.finalize-function (image l) (capacity room (now (lists .entry))) last key s (rules.round changed es))
+        (now (known .exit)) (now (infos .exit)) (now (lists .exit)) r) ⌝ }
 {
-    let s = load_at(known, infos, lists, k, v, n, key);
+    let s = load_at(known, infos, lists, keys, values, count, key);
     let t = settle_lists(
         sections,
         bytes,
@@ -192,22 +257,22 @@ pub fn finalize_function(
         objects,
         skips,
         known,
-        k,
-        v,
+        keys,
+        values,
         code,
-        n,
+        count,
         key,
         s,
         last,
     );
     if t.fault != 0 {
         return Detected {
-            count: n,
+            count,
             changed,
             fault: t.fault,
         };
     }
-    if t.possible == 0 {
+    if t.possible_blocks == 0 {
         return keep_settled(
             sections,
             bytes,
@@ -215,17 +280,17 @@ pub fn finalize_function(
             known,
             infos,
             lists,
-            k,
-            v,
+            keys,
+            values,
             code,
-            n,
+            count,
             room,
             key,
             t,
         );
     }
     Detected {
-        count: n,
+        count,
         changed,
         fault: 0,
     }

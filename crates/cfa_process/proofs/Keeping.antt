@@ -20,8 +20,8 @@ use Rattle.obj_rows.specs.Skips.{Ascending}
 use Rattle.obj.specs.Sections.{Few, InBytes}
 use Rattle.obj.specs.declared.sections.Code.{Code}
 use Rattle.obj.proofs.Ready.{few-sections, skips-rise, in-bytes}
-use Rattle.lists.specs.View.{view, Fit, part}
-use Rattle.lists.specs.declared.Small.{Small}
+use Rattle.function_slices.specs.View.{view, Fit, part}
+use Rattle.function_slices.specs.declared.Small.{Small}
 use Rattle.stored.proofs.Columns.{references-fit, possible-fit}
 use Rattle.walk.specs.State.{Listed}
 use Rattle.entries.specs.Table.{Holds, Good, Told, capacity}
@@ -29,7 +29,7 @@ use Rattle.cfa_entries.specs.Adding.{Looks, Looking, Entered}
 use Rattle.cfa_entries.proofs.Each.{Gone, gone, lost}
 use Rattle.cfa_entries.proofs.Keys.{keys-met}
 use Rattle.cfa_process.specs.Shown.{Shows, Shown}
-use Rattle.lists.specs.Places.{POSSIBLE, AT-REFERENCES, AT-POSSIBLE}
+use Rattle.function_slices.specs.Places.{POSSIBLE, AT-REFERENCES, AT-POSSIBLE}
 
 -- ---- what the image gives
 
@@ -66,48 +66,48 @@ module _ (l : Lent) (cap : rules.Capacity) (key : ℕ) (x : Slices) (es : List E
 
 -- ---- after what it refers to
 
-pub keys-fit : (k v : List ℕ) (s : Small) → Fit k v s → s .references ≤ length (take 256 (drop AT-REFERENCES k))
+pub keys-fit : (k v : List ℕ) (s : Small) → Fit k v s → s .«function_references» ≤ length (take 256 (drop AT-REFERENCES k))
 unfolding part
 keys-fit k v s f = references-fit k v s f
 
 module _ (l : Lent) (room : ℕ) (k v : List ℕ) (s : Small) (fit : Fit k v s) (es : List Entry) (lists : List ℕ) (n : ℕ) (known infos : List ℕ) (f : ℕ)
-    (r : Entered (rules.try-add-functions (image l) (capacity room lists) (take (s .references) (take 256 (drop AT-REFERENCES k))) es) n known infos lists f) where
-  same-keys : view k v s .references ≡ take (s .references) (take 256 (drop AT-REFERENCES k))
+    (r : Entered (rules.try-add-functions (image l) (capacity room lists) (take (s .«function_references») (take 256 (drop AT-REFERENCES k))) es) n known infos lists f) where
+  same-keys : view k v s .function-references ≡ take (s .«function_references») (take 256 (drop AT-REFERENCES k))
   unfolding view part
   same-keys = refl
 
   pub function-fails : (key : ℕ) → (f ≡ 0 → ⊥) → Entered (rules.store-function (image l) (capacity room lists) key (view k v s) es) n known infos lists f
   unfolding rules.store-function _>>=_
   function-fails key h =
-      let q : rules.try-add-functions (image l) (capacity room lists) (view k v s .references) es ≡ fault f = ap (λ (ks : List ℕ). rules.try-add-functions (image l) (capacity room lists) ks es) same-keys ∙ lost n known infos lists f _ (r .told) h in
+      let q : rules.try-add-functions (image l) (capacity room lists) (view k v s .function-references) es ≡ fault f = ap (λ (ks : List ℕ). rules.try-add-functions (image l) (capacity room lists) ks es) same-keys ∙ lost n known infos lists f _ (r .told) h in
       rw q (record { told = refl })
 
-  pub added : f ≡ 0 → Gone (rules.try-add-functions (image l) (capacity room lists) (take (s .references) (take 256 (drop AT-REFERENCES k))) es) n known infos lists
-  added z = gone n known infos lists f _ (keys-met (image l) (capacity room lists) (take (s .references) (take 256 (drop AT-REFERENCES k))) es) (r .told) z
+  pub added : f ≡ 0 → Gone (rules.try-add-functions (image l) (capacity room lists) (take (s .«function_references») (take 256 (drop AT-REFERENCES k))) es) n known infos lists
+  added z = gone n known infos lists f _ (keys-met (image l) (capacity room lists) (take (s .«function_references») (take 256 (drop AT-REFERENCES k))) es) (r .told) z
 
   pub good-then : f ≡ 0 → Good n known infos lists
   good-then z = record { entries = added z .entries; holds = added z .holds }
 
   module _ (z : f ≡ 0) where
-    goes : rules.try-add-functions (image l) (capacity room lists) (view k v s .references) es ≡ ok (added z .entries)
+    goes : rules.try-add-functions (image l) (capacity room lists) (view k v s .function-references) es ≡ ok (added z .entries)
     goes = ap (λ (ks : List ℕ). rules.try-add-functions (image l) (capacity room lists) ks es) same-keys ∙ added z .is
 
-    none-possible : s .possible ≡ 0 → empty (view k v s .possible) ≡ true
+    none-possible : s .«possible_blocks» ≡ 0 → empty (view k v s .possible-blocks) ≡ true
     unfolding view
     none-possible h = rw h refl
 
-    some-possible : (s .possible ≡ 0 → ⊥) → empty (view k v s .possible) ≡ false
+    some-possible : (s .«possible_blocks» ≡ 0 → ⊥) → empty (view k v s .possible-blocks) ≡ false
     unfolding view
-    some-possible h = by (take (s .possible) (part AT-POSSIBLE POSSIBLE k)) (length-take-le (s .possible) (part AT-POSSIBLE POSSIBLE k) (possible-fit k v s fit))
+    some-possible h = by (take (s .«possible_blocks») (part AT-POSSIBLE POSSIBLE k)) (length-take-le (s .«possible_blocks») (part AT-POSSIBLE POSSIBLE k) (possible-fit k v s fit))
       where
-        by : (l : List ℕ) → length l ≡ s .possible → empty l ≡ false
+        by : (l : List ℕ) → length l ≡ s .«possible_blocks» → empty l ≡ false
         by [] e = absurd (h (sym e))
         by (x ∷ l) e = refl
 
-    pub function-final : (key n′ : ℕ) (known′ infos′ lists′ : List ℕ) (g : ℕ) → s .possible ≡ 0 → Entered (rules.store-final (image l) (capacity room lists) key (view k v s) (added z .entries)) n′ known′ infos′ lists′ g → Entered (rules.store-function (image l) (capacity room lists) key (view k v s) es) n′ known′ infos′ lists′ g
+    pub function-final : (key n′ : ℕ) (known′ infos′ lists′ : List ℕ) (g : ℕ) → s .«possible_blocks» ≡ 0 → Entered (rules.store-final (image l) (capacity room lists) key (view k v s) (added z .entries)) n′ known′ infos′ lists′ g → Entered (rules.store-function (image l) (capacity room lists) key (view k v s) es) n′ known′ infos′ lists′ g
     unfolding rules.store-function _>>=_
     function-final key n′ known′ infos′ lists′ g h e = rw goes (rw (if-true (none-possible h) (rules.store-final (image l) (capacity room lists) key (view k v s) (added z .entries)) (rules.store (capacity room lists) key (view k v s) 0 (added z .entries))) e)
 
-    pub function-kept : (key n′ : ℕ) (known′ infos′ lists′ : List ℕ) (g : ℕ) → (s .possible ≡ 0 → ⊥) → Entered (rules.store (capacity room lists) key (view k v s) 0 (added z .entries)) n′ known′ infos′ lists′ g → Entered (rules.store-function (image l) (capacity room lists) key (view k v s) es) n′ known′ infos′ lists′ g
+    pub function-kept : (key n′ : ℕ) (known′ infos′ lists′ : List ℕ) (g : ℕ) → (s .«possible_blocks» ≡ 0 → ⊥) → Entered (rules.store (capacity room lists) key (view k v s) 0 (added z .entries)) n′ known′ infos′ lists′ g → Entered (rules.store-function (image l) (capacity room lists) key (view k v s) es) n′ known′ infos′ lists′ g
     unfolding rules.store-function _>>=_
     function-kept key n′ known′ infos′ lists′ g h e = rw goes (rw (if-false (some-possible h) (rules.store-final (image l) (capacity room lists) key (view k v s) (added z .entries)) (rules.store (capacity room lists) key (view k v s) 0 (added z .entries))) e)

@@ -12,9 +12,9 @@ use Rattle.rules.specs.Analyze as analysis
 use Rattle.rules.specs.Map as rules
 use Rattle.obj.specs.Lent.{Lent, image}
 use Rattle.obj.specs.declared.sections.Code.{Code}
-use Rattle.lists.specs.View as lists
-use Rattle.lists.specs.View.{view, Fit}
-use Rattle.lists.specs.declared.Small.{Small}
+use Rattle.function_slices.specs.View as lists
+use Rattle.function_slices.specs.View.{view, Fit}
+use Rattle.function_slices.specs.declared.Small.{Small}
 use Rattle.known.specs.Table.{Kept, Knows}
 use Rattle.callback_around.specs.declared.around.Around.{Around}
 use Rattle.callback.specs.Lends.{Of, LendsAll}

@@ -14,7 +14,7 @@ ghost use Rattle.analyze.specs.Analysis.{IsAnalyzed};
 ghost use Rattle.cfa_entries.specs.Adding.{Entered};
 ghost use Rattle.cfa_process.specs.Displayed.{Displays, Displayed, Knowing};
 use cfa_entries::Entries;
-use lists::places;
+use function_slices::places;
 
 // The analysis of the function at key, up to its end if that is known, on an empty value.
 fn analyze_at(
@@ -25,22 +25,28 @@ fn analyze_at(
     objects: &[u32],
     skips: &[u32],
     known: &[u64],
-    k: &mut [u64; places::KEYS],
-    v: &mut [u64; places::VALUES],
+    keys: &mut [u64; places::KEYS],
+    values: &mut [u64; places::VALUES],
     code: obj::sections::Code,
-    n: usize,
+    count: usize,
     key: u64,
 ) -> analyze::Analyzed
     requires image { ⌜ Displayed (now sections) (now bytes) (now outcomes) (now functions) (now objects) (now skips) code ⌝ }
-    requires entries { ⌜ Knowing n (now known) ⌝ }
-    ensures { λ r. ⌜ ((l : Lent) (cap : rules.Capacity) (es : List Entry) → Displays l (now (sections .entry)) (now (bytes .entry)) (now (outcomes .entry)) (now (functions .entry)) (now (objects .entry)) (now (skips .entry)) code → Knows n (now (known .entry)) es → IsAnalyzed (analyze (rules.around (image l) cap key (end-of-entry key es) es) key (with-only [])) (now (k .exit)) (now (v .exit)) r) ⌝ }
+    requires entries { ⌜ Knowing count (now known) ⌝ }
+    ensures { λ r.
+        ⌜ ((l : Lent) (cap : rules.Capacity) (es : List Entry) →
+        Displays l (now (sections .entry)) (now (bytes .entry)) (now (outcomes .entry)) (now (functions .entry))
+        (now (objects .entry)) (now (skips .entry)) code →
+        Knows count (now (known .entry)) es →
+        IsAnalyzed (analyze (rules.around (image l) cap key (end-of-entry key es) es) key (with-only []))
+        (now (keys .exit)) (now (values .exit)) r) ⌝ }
 {
-    let s = lists::empty(k, v);
-    let end = entries::end_of_entry(known, n, key);
+    let s = function_slices::empty(keys, values);
+    let end = entries::end_of_entry(known, count, key);
     let a = callback::around::Around {
         start: key,
         end,
-        known: n,
+        known: count,
         code,
     };
     analyze::analyze(
@@ -50,8 +56,8 @@ fn analyze_at(
         functions,
         objects,
         known,
-        k,
-        v,
+        keys,
+        values,
         a,
         s,
         key,
@@ -69,16 +75,22 @@ pub fn process_function_at(
     known: &mut [u64; entries::KNOWN],
     infos: &mut [u64; entries::INFOS],
     lists: &mut [u64],
-    k: &mut [u64; places::KEYS],
-    v: &mut [u64; places::VALUES],
+    keys: &mut [u64; places::KEYS],
+    values: &mut [u64; places::VALUES],
     code: obj::sections::Code,
-    n: usize,
+    count: usize,
     room: usize,
     key: u64,
 ) -> Entries
     requires image { ⌜ Displayed (now sections) (now bytes) (now outcomes) (now functions) (now objects) (now skips) code ⌝ }
-    requires good { ⌜ Good n (now known) (now infos) (now lists) ⌝ }
-    ensures { λ r. ⌜ ((l : Lent) (es : List Entry) → Displays l (now (sections .entry)) (now (bytes .entry)) (now (outcomes .entry)) (now (functions .entry)) (now (objects .entry)) (now (skips .entry)) code → Holds n (now (known .entry)) (now (infos .entry)) (now (lists .entry)) es → Entered (rules.process-function-at (image l) (capacity room (now (lists .entry))) key es) (r .count) (now (known .exit)) (now (infos .exit)) (now (lists .exit)) (r .fault)) ⌝ }
+    requires good { ⌜ Good count (now known) (now infos) (now lists) ⌝ }
+    ensures { λ r.
+        ⌜ ((l : Lent) (es : List Entry) →
+        Displays l (now (sections .entry)) (now (bytes .entry)) (now (outcomes .entry)) (now (functions .entry))
+        (now (objects .entry)) (now (skips .entry)) code →
+        Holds count (now (known .entry)) (now (infos .entry)) (now (lists .entry)) es →
+        Entered (rules.process-function-at (image l) (capacity room (now (lists .entry))) key es) (r .count)
+        (now (known .exit)) (now (infos .exit)) (now (lists .exit)) (r .fault)) ⌝ }
 {
     let r = analyze_at(
         sections,
@@ -88,16 +100,16 @@ pub fn process_function_at(
         objects,
         skips,
         known,
-        k,
-        v,
+        keys,
+        values,
         code,
-        n,
+        count,
         key,
     );
     let small = r.small;
     if small.fault != 0 {
         return Entries {
-            count: n,
+            count,
             fault: small.fault,
         };
     }
@@ -109,16 +121,16 @@ pub fn process_function_at(
             known,
             infos,
             lists,
-            k,
-            v,
+            keys,
+            values,
             code,
-            n,
+            count,
             room,
             key,
             small,
         );
     }
-    let t = entry_changes::set_aside(known, infos, lists, n, room, key);
+    let t = entry_changes::set_aside(known, infos, lists, count, room, key);
     Entries {
         count: t.count,
         fault: t.fault,

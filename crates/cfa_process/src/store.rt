@@ -4,31 +4,48 @@ ghost use mathlib.Core.List.{List};
 ghost use Rattle.rules.specs.Known.{Entry};
 ghost use Rattle.rules.specs.Map as rules;
 ghost use Rattle.obj.specs.Lent.{Lent, image};
-ghost use Rattle.lists.specs.View.{view, Fit};
+ghost use Rattle.function_slices.specs.View.{view, Fit};
 ghost use Rattle.entries.specs.Table.{Holds, Good, capacity};
 ghost use Rattle.cfa_entries.specs.Adding.{Entered};
 ghost use Rattle.cfa_process.specs.Shown.{Shows, Shown};
 use cfa_entries::Entries;
-use lists::places;
+use function_slices::places;
 
 // Stored with an end, 0 for none.
 fn keep(
     known: &mut [u64; entries::KNOWN],
     infos: &mut [u64; entries::INFOS],
     lists: &mut [u64],
-    k: &[u64],
-    v: &[u64],
-    n: usize,
+    keys: &[u64],
+    values: &[u64],
+    count: usize,
     room: usize,
     key: u64,
-    s: lists::Small,
+    slices: function_slices::Small,
     end: u64,
 ) -> Entries
-    requires good { ⌜ Good n (now known) (now infos) (now lists) ⌝ }
-    requires fit { ⌜ Fit (now k) (now v) s ⌝ }
-    ensures { λ r. ⌜ ((es : List Entry) → Holds n (now (known .entry)) (now (infos .entry)) (now (lists .entry)) es → Entered (rules.store (capacity room (now (lists .entry))) key (view (now (k .entry)) (now (v .entry)) s) end es) (r .count) (now (known .exit)) (now (infos .exit)) (now (lists .exit)) (r .fault)) ⌝ }
+    requires good { ⌜ Good count (now known) (now infos) (now lists) ⌝ }
+    requires fit { ⌜ Fit (now keys) (now values) slices ⌝ }
+    ensures { λ r.
+        ⌜ ((es : List Entry) →
+        Holds count (now (known .entry)) (now (infos .entry)) (now (lists .entry)) es →
+        Entered
+        (rules.store (capacity room (now (lists .entry))) key (view (now (keys .entry)) (now (values .entry)) slices)
+        end es)
+        (r .count) (now (known .exit)) (now (infos .exit)) (now (lists .exit)) (r .fault)) ⌝ }
 {
-    let r = entry_changes::store(known, infos, lists, n, room, key, end, k, v, s);
+    let r = entry_changes::store(
+        known,
+        infos,
+        lists,
+        count,
+        room,
+        key,
+        end,
+        keys,
+        values,
+        slices,
+    );
     Entries {
         count: r.count,
         fault: r.fault,
@@ -43,28 +60,35 @@ pub fn store_final(
     known: &mut [u64; entries::KNOWN],
     infos: &mut [u64; entries::INFOS],
     lists: &mut [u64],
-    k: &mut [u64; places::KEYS],
-    v: &mut [u64; places::VALUES],
+    keys: &mut [u64; places::KEYS],
+    values: &mut [u64; places::VALUES],
     code: obj::sections::Code,
-    n: usize,
+    count: usize,
     room: usize,
     key: u64,
-    s: lists::Small,
+    slices: function_slices::Small,
 ) -> Entries
-    requires good { ⌜ Good n (now known) (now infos) (now lists) ⌝ }
-    requires fit { ⌜ Fit (now k) (now v) s × (s .fault ≡ 0) ⌝ }
+    requires good { ⌜ Good count (now known) (now infos) (now lists) ⌝ }
+    requires fit { ⌜ Fit (now keys) (now values) slices × (slices .fault ≡ 0) ⌝ }
     requires image { ⌜ Shown (now sections) (now bytes) (now skips) code ⌝ }
-    ensures { λ r. ⌜ ((l : Lent) (es : List Entry) → Shows l (now (sections .entry)) (now (bytes .entry)) (now (skips .entry)) code → Holds n (now (known .entry)) (now (infos .entry)) (now (lists .entry)) es → Entered (rules.store-final (image l) (capacity room (now (lists .entry))) key (view (now (k .entry)) (now (v .entry)) s) es) (r .count) (now (known .exit)) (now (infos .exit)) (now (lists .exit)) (r .fault)) ⌝ }
+    ensures { λ r.
+        ⌜ ((l : Lent) (es : List Entry) →
+        Shows l (now (sections .entry)) (now (bytes .entry)) (now (skips .entry)) code →
+        Holds count (now (known .entry)) (now (infos .entry)) (now (lists .entry)) es →
+        Entered
+        (rules.store-final (image l) (capacity room (now (lists .entry))) key
+        (view (now (keys .entry)) (now (values .entry)) slices) es)
+        (r .count) (now (known .exit)) (now (infos .exit)) (now (lists .exit)) (r .fault)) ⌝ }
 {
-    let t = finalize::finalize(sections, bytes, known, k, v, code, n, s);
+    let t = finalize::finalize(sections, bytes, known, keys, values, code, count, slices);
     if t.fault != 0 {
         return Entries {
-            count: n,
+            count,
             fault: t.fault,
         };
     }
-    let end = lists::last_end(k, v, t);
-    keep(known, infos, lists, k, v, n, room, key, t, end)
+    let end = function_slices::last_end(keys, values, t);
+    keep(known, infos, lists, keys, values, count, room, key, t, end)
 }
 
 // What the function refers to becomes an entry first.
@@ -75,24 +99,41 @@ pub fn store_function(
     known: &mut [u64; entries::KNOWN],
     infos: &mut [u64; entries::INFOS],
     lists: &mut [u64],
-    k: &mut [u64; places::KEYS],
-    v: &mut [u64; places::VALUES],
+    keys: &mut [u64; places::KEYS],
+    values: &mut [u64; places::VALUES],
     code: obj::sections::Code,
-    n: usize,
+    count: usize,
     room: usize,
     key: u64,
-    s: lists::Small,
+    slices: function_slices::Small,
 ) -> Entries
-    requires good { ⌜ Good n (now known) (now infos) (now lists) ⌝ }
-    requires fit { ⌜ Fit (now k) (now v) s × (s .fault ≡ 0) ⌝ }
+    requires good { ⌜ Good count (now known) (now infos) (now lists) ⌝ }
+    requires fit { ⌜ Fit (now keys) (now values) slices × (slices .fault ≡ 0) ⌝ }
     requires image { ⌜ Shown (now sections) (now bytes) (now skips) code ⌝ }
-    ensures { λ r. ⌜ ((l : Lent) (es : List Entry) → Shows l (now (sections .entry)) (now (bytes .entry)) (now (skips .entry)) code → Holds n (now (known .entry)) (now (infos .entry)) (now (lists .entry)) es → Entered (rules.store-function (image l) (capacity room (now (lists .entry))) key (view (now (k .entry)) (now (v .entry)) s) es) (r .count) (now (known .exit)) (now (infos .exit)) (now (lists .exit)) (r .fault)) ⌝ }
+    ensures { λ r.
+        ⌜ ((l : Lent) (es : List Entry) →
+        Shows l (now (sections .entry)) (now (bytes .entry)) (now (skips .entry)) code →
+        Holds count (now (known .entry)) (now (infos .entry)) (now (lists .entry)) es →
+        Entered
+        (rules.store-function (image l) (capacity room (now (lists .entry))) key
+        (view (now (keys .entry)) (now (values .entry)) slices) es)
+        (r .count) (now (known .exit)) (now (infos .exit)) (now (lists .exit)) (r .fault)) ⌝ }
 {
-    let r = cfa_entries::add_references(skips, known, infos, lists, code, n, room, k, s.references);
+    let r = cfa_entries::add_references(
+        skips,
+        known,
+        infos,
+        lists,
+        code,
+        count,
+        room,
+        keys,
+        slices.function_references,
+    );
     if r.fault != 0 {
         return r;
     }
-    if s.possible == 0 {
+    if slices.possible_blocks == 0 {
         return store_final(
             sections,
             bytes,
@@ -100,14 +141,25 @@ pub fn store_function(
             known,
             infos,
             lists,
-            k,
-            v,
+            keys,
+            values,
             code,
             r.count,
             room,
             key,
-            s,
+            slices,
         );
     }
-    keep(known, infos, lists, k, v, r.count, room, key, s, 0)
+    keep(
+        known,
+        infos,
+        lists,
+        keys,
+        values,
+        r.count,
+        room,
+        key,
+        slices,
+        0,
+    )
 }

@@ -11,19 +11,24 @@ ghost use Rattle.cfa_entries.specs.Adding.{Entered};
 ghost use Rattle.cfa_process.specs.Displayed.{Displays, Displayed};
 ghost use Rattle.cfa_rounds.specs.Walks.{process-given, Put};
 use cfa_entries::Entries;
-use lists::places;
+use function_slices::places;
 
-// The entry point, if there is one, put behind n keys.
-fn put_entry_point(entry: &[u32], code: obj::sections::Code, keys: &mut [u64], n: usize) -> usize
+// The entry point, if there is one, put behind `count` keys.
+fn put_entry_point(
+    entry: &[u32],
+    code: obj::sections::Code,
+    keys: &mut [u64],
+    count: usize,
+) -> usize
     requires low { ⌜ code .number < 16 ⌝ }
-    requires room { ⌜ n < length (now keys) ⌝ }
-    ensures { λ r. ⌜ Put code (now (entry .entry)) (now (keys .entry)) n (now (keys .exit)) r ⌝ }
+    requires room { ⌜ count < length (now keys) ⌝ }
+    ensures { λ r. ⌜ Put code (now (entry .entry)) (now (keys .entry)) count (now (keys .exit)) r ⌝ }
 {
     if entry.len() == 0 {
-        return n;
+        return count;
     }
-    keys[n] = code.number * 0x1_0000_0000 + obj::sections::wide(entry[0]);
-    n + 1
+    keys[count] = code.number * 0x1_0000_0000 + obj::sections::wide(entry[0]);
+    count + 1
 }
 
 // The entries that there are now are walked, and then the entry point; entries that are added meanwhile are not.
@@ -38,19 +43,26 @@ fn process_given(
     known: &mut [u64; entries::KNOWN],
     infos: &mut [u64; entries::INFOS],
     lists: &mut [u64],
-    k: &mut [u64; places::KEYS],
-    v: &mut [u64; places::VALUES],
+    keys: &mut [u64; places::KEYS],
+    values: &mut [u64; places::VALUES],
     code: obj::sections::Code,
-    n: usize,
+    count: usize,
     room: usize,
 ) -> Entries
     requires image { ⌜ Displayed (now sections) (now bytes) (now outcomes) (now functions) (now objects) (now skips) code ⌝ }
-    requires good { ⌜ Good n (now known) (now infos) (now lists) ⌝ }
-    ensures { λ r. ⌜ ((l : Lent) (es : List Entry) → Displays l (now (sections .entry)) (now (bytes .entry)) (now (outcomes .entry)) (now (functions .entry)) (now (objects .entry)) (now (skips .entry)) code → l .entry ≡ now (entry .entry) → Holds n (now (known .entry)) (now (infos .entry)) (now (lists .entry)) es → Entered (process-given (image l) (capacity room (now (lists .entry))) es) (r .count) (now (known .exit)) (now (infos .exit)) (now (lists .exit)) (r .fault)) ⌝ }
+    requires good { ⌜ Good count (now known) (now infos) (now lists) ⌝ }
+    ensures { λ r.
+        ⌜ ((l : Lent) (es : List Entry) →
+        Displays l (now (sections .entry)) (now (bytes .entry)) (now (outcomes .entry)) (now (functions .entry))
+        (now (objects .entry)) (now (skips .entry)) code →
+        l .entry ≡ now (entry .entry) →
+        Holds count (now (known .entry)) (now (infos .entry)) (now (lists .entry)) es →
+        Entered (process-given (image l) (capacity room (now (lists .entry))) es) (r .count) (now (known .exit))
+        (now (infos .exit)) (now (lists .exit)) (r .fault)) ⌝ }
 {
-    let mut keys: [u64; 1025] = [0; 1025];
-    runs::copy_in(&mut keys, 0, known, n);
-    let m = put_entry_point(entry, code, &mut keys, n);
+    let mut given: [u64; 1025] = [0; 1025];
+    runs::copy_in(&mut given, 0, known, count);
+    let m = put_entry_point(entry, code, &mut given, count);
     crate::process_each(
         sections,
         bytes,
@@ -61,12 +73,12 @@ fn process_given(
         known,
         infos,
         lists,
-        k,
-        v,
+        keys,
+        values,
         code,
-        n,
+        count,
         room,
-        &keys[0..m],
+        &given[0..m],
     )
 }
 
@@ -82,14 +94,20 @@ pub fn walk_given(
     known: &mut [u64; entries::KNOWN],
     infos: &mut [u64; entries::INFOS],
     lists: &mut [u64],
-    k: &mut [u64; places::KEYS],
-    v: &mut [u64; places::VALUES],
+    keys: &mut [u64; places::KEYS],
+    values: &mut [u64; places::VALUES],
     code: obj::sections::Code,
     room: usize,
 ) -> Entries
     requires image { ⌜ Displayed (now sections) (now bytes) (now outcomes) (now functions) (now objects) (now skips) code ⌝ }
     requires sizes { ⌜ (length (now known) ≡ KNOWN) × (length (now infos) ≡ INFOS) ⌝ }
-    ensures { λ r. ⌜ ((l : Lent) → Displays l (now (sections .entry)) (now (bytes .entry)) (now (outcomes .entry)) (now (functions .entry)) (now (objects .entry)) (now (skips .entry)) code → l .entry ≡ now (entry .entry) → Entered (rules.walk-given (image l) (capacity room (now (lists .entry)))) (r .count) (now (known .exit)) (now (infos .exit)) (now (lists .exit)) (r .fault)) ⌝ }
+    ensures { λ r.
+        ⌜ ((l : Lent) →
+        Displays l (now (sections .entry)) (now (bytes .entry)) (now (outcomes .entry)) (now (functions .entry))
+        (now (objects .entry)) (now (skips .entry)) code →
+        l .entry ≡ now (entry .entry) →
+        Entered (rules.walk-given (image l) (capacity room (now (lists .entry)))) (r .count) (now (known .exit))
+        (now (infos .exit)) (now (lists .exit)) (r .fault)) ⌝ }
 {
     let r = cfa_symbols::first_entries(functions, known, infos, lists, code, room);
     if r.fault != 0 {
@@ -106,8 +124,8 @@ pub fn walk_given(
         known,
         infos,
         lists,
-        k,
-        v,
+        keys,
+        values,
         code,
         r.count,
         room,

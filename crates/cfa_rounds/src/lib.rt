@@ -18,7 +18,7 @@ ghost use Rattle.cfa_rounds.specs.Ready.{Sane, Ready, Fit, Running};
 ghost use Rattle.cfa_rounds.specs.Turns.{turn-of, next-key, no-entry, take-round, turn, rest, IsTurn};
 use cfa_detect::Detected;
 use cfa_entries::Entries;
-use lists::places;
+use function_slices::places;
 
 // A run between two turns: how many entries there are, how many of those known beforehand were walked, what comes next, and the fault that
 // it met, 0 for none. Stages: 0 the first entry that is not analyzed is walked, or where there is none, entries are finalized; 1 new ones
@@ -41,18 +41,34 @@ fn no_entry(
     known: &mut [u64; entries::KNOWN],
     infos: &mut [u64; entries::INFOS],
     lists: &mut [u64],
-    k: &mut [u64; places::KEYS],
-    v: &mut [u64; places::VALUES],
+    keys: &mut [u64; places::KEYS],
+    values: &mut [u64; places::VALUES],
     code: obj::sections::Code,
-    n: usize,
+    count: usize,
     room: usize,
     stage: u32,
 ) -> Detected
-    requires ready { ⌜ Ready (now sections) (now bytes) (now outcomes) (now functions) (now objects) (now skips) code n (now known) (now infos) (now lists) ⌝ }
-    ensures { λ r. ⌜ ((l : Lent) (es : List Entry) → Displays l (now (sections .entry)) (now (bytes .entry)) (now (outcomes .entry)) (now (functions .entry)) (now (objects .entry)) (now (skips .entry)) code → Holds n (now (known .entry)) (now (infos .entry)) (now (lists .entry)) es → IsRound (no-entry (image l) (capacity room (now (lists .entry))) stage es) (now (known .exit)) (now (infos .exit)) (now (lists .exit)) r) ⌝ }
+    requires ready { ⌜ Ready (now sections) (now bytes) (now outcomes) (now functions) (now objects) (now skips) code count
+        (now known) (now infos) (now lists) ⌝ }
+    ensures { λ r.
+        ⌜ ((l : Lent) (es : List Entry) →
+        Displays l (now (sections .entry)) (now (bytes .entry)) (now (outcomes .entry)) (now (functions .entry))
+        (now (objects .entry)) (now (skips .entry)) code →
+        Holds count (now (known .entry)) (now (infos .entry)) (now (lists .entry)) es →
+        IsRound (no-entry (image l) (capacity room (now (lists .entry))) stage es) (now (known .exit))
+        (now (infos .exit)) (now (lists .exit)) r) ⌝ }
 {
     if stage == 1 {
-        return cfa_detect::detect_new_functions(bytes, skips, known, infos, lists, code, n, room);
+        return cfa_detect::detect_new_functions(
+            bytes,
+            skips,
+            known,
+            infos,
+            lists,
+            code,
+            count,
+            room,
+        );
     }
     cfa_finalize::finalize_functions(
         sections,
@@ -64,24 +80,27 @@ fn no_entry(
         known,
         infos,
         lists,
-        k,
-        v,
+        keys,
+        values,
         code,
-        n,
+        count,
         room,
         stage == 2,
     )
 }
 
 // The entry to be walked at a stage, 0 for none.
-fn next_key(known: &[u64], infos: &[u64], lists: &[u64], n: usize, stage: u32) -> u64
-    requires good { ⌜ Good n (now known) (now infos) (now lists) ⌝ }
-    ensures { λ r. ⌜ ((im : Image) (cap : rules.Capacity) (es : List Entry) → Holds n (now (known .entry)) (now (infos .entry)) (now (lists .entry)) es → r ≡ next-key im cap stage es) ⌝ }
+fn next_key(known: &[u64], infos: &[u64], lists: &[u64], count: usize, stage: u32) -> u64
+    requires good { ⌜ Good count (now known) (now infos) (now lists) ⌝ }
+    ensures { λ r.
+        ⌜ ((im : Image) (cap : rules.Capacity) (es : List Entry) →
+        Holds count (now (known .entry)) (now (infos .entry)) (now (lists .entry)) es →
+        r ≡ next-key im cap stage es) ⌝ }
 {
     if stage != 0 {
         return 0;
     }
-    entries::first_unbounded_function(known, infos, lists, n)
+    entries::first_unbounded_function(known, infos, lists, count)
 }
 
 // A turn with none of those known beforehand left.
@@ -95,17 +114,26 @@ fn take_round(
     known: &mut [u64; entries::KNOWN],
     infos: &mut [u64; entries::INFOS],
     lists: &mut [u64],
-    k: &mut [u64; places::KEYS],
-    v: &mut [u64; places::VALUES],
+    keys: &mut [u64; places::KEYS],
+    values: &mut [u64; places::VALUES],
     code: obj::sections::Code,
-    n: usize,
+    count: usize,
     room: usize,
     stage: u32,
 ) -> Detected
-    requires ready { ⌜ Ready (now sections) (now bytes) (now outcomes) (now functions) (now objects) (now skips) code n (now known) (now infos) (now lists) ⌝ }
-    ensures { λ r. ⌜ ((l : Lent) (es : List Entry) → Displays l (now (sections .entry)) (now (bytes .entry)) (now (outcomes .entry)) (now (functions .entry)) (now (objects .entry)) (now (skips .entry)) code → Holds n (now (known .entry)) (now (infos .entry)) (now (lists .entry)) es → IsRound (take-round (image l) (capacity room (now (lists .entry))) stage (next-key (image l) (capacity room (now (lists .entry))) stage es) es) (now (known .exit)) (now (infos .exit)) (now (lists .exit)) r) ⌝ }
+    requires ready { ⌜ Ready (now sections) (now bytes) (now outcomes) (now functions) (now objects) (now skips) code count
+        (now known) (now infos) (now lists) ⌝ }
+    ensures { λ r.
+        ⌜ ((l : Lent) (es : List Entry) →
+        Displays l (now (sections .entry)) (now (bytes .entry)) (now (outcomes .entry)) (now (functions .entry))
+        (now (objects .entry)) (now (skips .entry)) code →
+        Holds count (now (known .entry)) (now (infos .entry)) (now (lists .entry)) es →
+        IsRound
+        (take-round (image l) (capacity room (now (lists .entry))) stage
+        (next-key (image l) (capacity room (now (lists .entry))) stage es) es)
+        (now (known .exit)) (now (infos .exit)) (now (lists .exit)) r) ⌝ }
 {
-    let key = next_key(known, infos, lists, n, stage);
+    let key = next_key(known, infos, lists, count, stage);
     if key == 0 {
         return no_entry(
             sections,
@@ -117,10 +145,10 @@ fn take_round(
             known,
             infos,
             lists,
-            k,
-            v,
+            keys,
+            values,
             code,
-            n,
+            count,
             room,
             stage,
         );
@@ -135,10 +163,10 @@ fn take_round(
         known,
         infos,
         lists,
-        k,
-        v,
+        keys,
+        values,
         code,
-        n,
+        count,
         room,
         key,
     );
@@ -171,21 +199,32 @@ pub fn turn(
     known: &mut [u64; entries::KNOWN],
     infos: &mut [u64; entries::INFOS],
     lists: &mut [u64],
-    k: &mut [u64; places::KEYS],
-    v: &mut [u64; places::VALUES],
+    keys: &mut [u64; places::KEYS],
+    values: &mut [u64; places::VALUES],
     code: obj::sections::Code,
     room: usize,
-    keys: &[u64],
+    given: &[u64],
     run: Run,
 ) -> Run
     requires image { ⌜ Displayed (now sections) (now bytes) (now outcomes) (now functions) (now objects) (now skips) code ⌝ }
     requires good { ⌜ Good (run .count) (now known) (now infos) (now lists) ⌝ }
-    requires keys { ⌜ length (now keys) ≤ 1025 ⌝ }
-    requires free { ⌜ (length (now keys) ≤ run .at → Ready (now sections) (now bytes) (now outcomes) (now functions) (now objects) (now skips) code (run .count) (now known) (now infos) (now lists) × (run .stage ≤ 2)) ⌝ }
-    ensures { λ r. ⌜ ((l : Lent) (es : List Entry) → Displays l (now (sections .entry)) (now (bytes .entry)) (now (outcomes .entry)) (now (functions .entry)) (now (objects .entry)) (now (skips .entry)) code → Holds (run .count) (now (known .entry)) (now (infos .entry)) (now (lists .entry)) es → IsTurn (turn (image l) (capacity room (now (lists .entry))) (turn-of (drop (run .at) (now (keys .entry))) (run .stage) es)) (now (keys .entry)) (now (known .exit)) (now (infos .exit)) (now (lists .exit)) r) ⌝ }
+    requires keys { ⌜ length (now given) ≤ 1025 ⌝ }
+    requires free { ⌜ (length (now given) ≤ run .at →
+        Ready (now sections) (now bytes) (now outcomes) (now functions) (now objects) (now skips) code (run .count)
+        (now known) (now infos) (now lists) ×
+        (run .stage ≤ 2)) ⌝ }
+    ensures { λ r.
+        ⌜ ((l : Lent) (es : List Entry) →
+        Displays l (now (sections .entry)) (now (bytes .entry)) (now (outcomes .entry)) (now (functions .entry))
+        (now (objects .entry)) (now (skips .entry)) code →
+        Holds (run .count) (now (known .entry)) (now (infos .entry)) (now (lists .entry)) es →
+        IsTurn
+        (turn (image l) (capacity room (now (lists .entry)))
+        (turn-of (drop (run .at) (now (given .entry))) (run .stage) es))
+        (now (given .entry)) (now (known .exit)) (now (infos .exit)) (now (lists .exit)) r) ⌝ }
 {
     let at = run.at;
-    if at < keys.len() {
+    if at < given.len() {
         let r = cfa_process::process_function_at(
             sections,
             bytes,
@@ -196,12 +235,12 @@ pub fn turn(
             known,
             infos,
             lists,
-            k,
-            v,
+            keys,
+            values,
             code,
             run.count,
             room,
-            keys[at],
+            given[at],
         );
         return Run {
             count: r.count,
@@ -220,8 +259,8 @@ pub fn turn(
         known,
         infos,
         lists,
-        k,
-        v,
+        keys,
+        values,
         code,
         run.count,
         room,
@@ -246,19 +285,30 @@ fn take_turns(
     known: &mut [u64; entries::KNOWN],
     infos: &mut [u64; entries::INFOS],
     lists: &mut [u64],
-    k: &mut [u64; places::KEYS],
-    v: &mut [u64; places::VALUES],
+    keys: &mut [u64; places::KEYS],
+    values: &mut [u64; places::VALUES],
     code: obj::sections::Code,
     room: usize,
-    keys: &[u64],
+    given: &[u64],
     run: Run,
     stop: u32,
 ) -> Run
-    requires running { ⌜ Running (now sections) (now bytes) (now outcomes) (now functions) (now objects) (now skips) code (capacity room (now lists)) (now keys) stop run (now known) (now infos) (now lists) ⌝ }
-    ensures { λ r. ⌜ ((l : Lent) (es : List Entry) → Displays l (now (sections .entry)) (now (bytes .entry)) (now (outcomes .entry)) (now (functions .entry)) (now (objects .entry)) (now (skips .entry)) code → Holds (run .count) (now (known .entry)) (now (infos .entry)) (now (lists .entry)) es → Fit l (capacity room (now (lists .entry))) stop (turn-of (drop (run .at) (now (keys .entry))) (run .stage) es) → Entered (rest (image l) (capacity room (now (lists .entry))) stop (turn-of (drop (run .at) (now (keys .entry))) (run .stage) es)) (r .count) (now (known .exit)) (now (infos .exit)) (now (lists .exit)) (r .fault)) ⌝ }
+    requires running { ⌜ Running (now sections) (now bytes) (now outcomes) (now functions) (now objects) (now skips) code
+        (capacity room (now lists)) (now given) stop run (now known) (now infos) (now lists) ⌝ }
+    ensures { λ r.
+        ⌜ ((l : Lent) (es : List Entry) →
+        Displays l (now (sections .entry)) (now (bytes .entry)) (now (outcomes .entry)) (now (functions .entry))
+        (now (objects .entry)) (now (skips .entry)) code →
+        Holds (run .count) (now (known .entry)) (now (infos .entry)) (now (lists .entry)) es →
+        Fit l (capacity room (now (lists .entry))) stop
+        (turn-of (drop (run .at) (now (given .entry))) (run .stage) es) →
+        Entered
+        (rest (image l) (capacity room (now (lists .entry))) stop
+        (turn-of (drop (run .at) (now (given .entry))) (run .stage) es))
+        (r .count) (now (known .exit)) (now (infos .exit)) (now (lists .exit)) (r .fault)) ⌝ }
 {
     let mut r = run;
-    while (r.at < keys.len()) | (r.stage < stop) {
+    while (r.at < given.len()) | (r.stage < stop) {
         r = turn(
             sections,
             bytes,
@@ -269,11 +319,11 @@ fn take_turns(
             known,
             infos,
             lists,
-            k,
-            v,
+            keys,
+            values,
             code,
             room,
-            keys,
+            given,
             r,
         );
         if r.fault != 0 {
@@ -283,7 +333,7 @@ fn take_turns(
     r
 }
 
-// The entries at the keys are walked, one after the other.
+// The entries at the keys in `given` are walked, one after the other.
 pub fn process_each(
     sections: &[u32],
     bytes: &[u8],
@@ -294,17 +344,23 @@ pub fn process_each(
     known: &mut [u64; entries::KNOWN],
     infos: &mut [u64; entries::INFOS],
     lists: &mut [u64],
-    k: &mut [u64; places::KEYS],
-    v: &mut [u64; places::VALUES],
+    keys: &mut [u64; places::KEYS],
+    values: &mut [u64; places::VALUES],
     code: obj::sections::Code,
-    n: usize,
+    count: usize,
     room: usize,
-    keys: &[u64],
+    given: &[u64],
 ) -> Entries
     requires image { ⌜ Displayed (now sections) (now bytes) (now outcomes) (now functions) (now objects) (now skips) code ⌝ }
-    requires good { ⌜ Good n (now known) (now infos) (now lists) ⌝ }
-    requires keys { ⌜ length (now keys) ≤ 1025 ⌝ }
-    ensures { λ r. ⌜ ((l : Lent) (es : List Entry) → Displays l (now (sections .entry)) (now (bytes .entry)) (now (outcomes .entry)) (now (functions .entry)) (now (objects .entry)) (now (skips .entry)) code → Holds n (now (known .entry)) (now (infos .entry)) (now (lists .entry)) es → Entered (rules.process-each (image l) (capacity room (now (lists .entry))) (now (keys .entry)) es) (r .count) (now (known .exit)) (now (infos .exit)) (now (lists .exit)) (r .fault)) ⌝ }
+    requires good { ⌜ Good count (now known) (now infos) (now lists) ⌝ }
+    requires keys { ⌜ length (now given) ≤ 1025 ⌝ }
+    ensures { λ r.
+        ⌜ ((l : Lent) (es : List Entry) →
+        Displays l (now (sections .entry)) (now (bytes .entry)) (now (outcomes .entry)) (now (functions .entry))
+        (now (objects .entry)) (now (skips .entry)) code →
+        Holds count (now (known .entry)) (now (infos .entry)) (now (lists .entry)) es →
+        Entered (rules.process-each (image l) (capacity room (now (lists .entry))) (now (given .entry)) es) (r .count)
+        (now (known .exit)) (now (infos .exit)) (now (lists .exit)) (r .fault)) ⌝ }
 {
     let r = take_turns(
         sections,
@@ -316,13 +372,13 @@ pub fn process_each(
         known,
         infos,
         lists,
-        k,
-        v,
+        keys,
+        values,
         code,
         room,
-        keys,
+        given,
         Run {
-            count: n,
+            count,
             at: 0,
             stage: 0,
             fault: 0,
@@ -346,16 +402,24 @@ pub fn process_functions(
     known: &mut [u64; entries::KNOWN],
     infos: &mut [u64; entries::INFOS],
     lists: &mut [u64],
-    k: &mut [u64; places::KEYS],
-    v: &mut [u64; places::VALUES],
+    keys: &mut [u64; places::KEYS],
+    values: &mut [u64; places::VALUES],
     code: obj::sections::Code,
-    n: usize,
+    count: usize,
     room: usize,
 ) -> Entries
-    requires ready { ⌜ Ready (now sections) (now bytes) (now outcomes) (now functions) (now objects) (now skips) code n (now known) (now infos) (now lists) ⌝ }
-    ensures { λ r. ⌜ ((l : Lent) (es : List Entry) → Displays l (now (sections .entry)) (now (bytes .entry)) (now (outcomes .entry)) (now (functions .entry)) (now (objects .entry)) (now (skips .entry)) code → Holds n (now (known .entry)) (now (infos .entry)) (now (lists .entry)) es → Sane l es → Entered (rules.process-functions (image l) (capacity room (now (lists .entry))) es) (r .count) (now (known .exit)) (now (infos .exit)) (now (lists .exit)) (r .fault)) ⌝ }
+    requires ready { ⌜ Ready (now sections) (now bytes) (now outcomes) (now functions) (now objects) (now skips) code count
+        (now known) (now infos) (now lists) ⌝ }
+    ensures { λ r.
+        ⌜ ((l : Lent) (es : List Entry) →
+        Displays l (now (sections .entry)) (now (bytes .entry)) (now (outcomes .entry)) (now (functions .entry))
+        (now (objects .entry)) (now (skips .entry)) code →
+        Holds count (now (known .entry)) (now (infos .entry)) (now (lists .entry)) es →
+        Sane l es →
+        Entered (rules.process-functions (image l) (capacity room (now (lists .entry))) es) (r .count)
+        (now (known .exit)) (now (infos .exit)) (now (lists .exit)) (r .fault)) ⌝ }
 {
-    let keys: [u64; 0] = [];
+    let given: [u64; 0] = [];
     let r = take_turns(
         sections,
         bytes,
@@ -366,13 +430,13 @@ pub fn process_functions(
         known,
         infos,
         lists,
-        k,
-        v,
+        keys,
+        values,
         code,
         room,
-        &keys,
+        &given,
         Run {
-            count: n,
+            count,
             at: 0,
             stage: 0,
             fault: 0,
@@ -396,16 +460,24 @@ pub fn last_rounds(
     known: &mut [u64; entries::KNOWN],
     infos: &mut [u64; entries::INFOS],
     lists: &mut [u64],
-    k: &mut [u64; places::KEYS],
-    v: &mut [u64; places::VALUES],
+    keys: &mut [u64; places::KEYS],
+    values: &mut [u64; places::VALUES],
     code: obj::sections::Code,
-    n: usize,
+    count: usize,
     room: usize,
 ) -> Entries
-    requires ready { ⌜ Ready (now sections) (now bytes) (now outcomes) (now functions) (now objects) (now skips) code n (now known) (now infos) (now lists) ⌝ }
-    ensures { λ r. ⌜ ((l : Lent) (es : List Entry) → Displays l (now (sections .entry)) (now (bytes .entry)) (now (outcomes .entry)) (now (functions .entry)) (now (objects .entry)) (now (skips .entry)) code → Holds n (now (known .entry)) (now (infos .entry)) (now (lists .entry)) es → Sane l es → Entered (rules.last-rounds (image l) (capacity room (now (lists .entry))) es) (r .count) (now (known .exit)) (now (infos .exit)) (now (lists .exit)) (r .fault)) ⌝ }
+    requires ready { ⌜ Ready (now sections) (now bytes) (now outcomes) (now functions) (now objects) (now skips) code count
+        (now known) (now infos) (now lists) ⌝ }
+    ensures { λ r.
+        ⌜ ((l : Lent) (es : List Entry) →
+        Displays l (now (sections .entry)) (now (bytes .entry)) (now (outcomes .entry)) (now (functions .entry))
+        (now (objects .entry)) (now (skips .entry)) code →
+        Holds count (now (known .entry)) (now (infos .entry)) (now (lists .entry)) es →
+        Sane l es →
+        Entered (rules.last-rounds (image l) (capacity room (now (lists .entry))) es) (r .count) (now (known .exit))
+        (now (infos .exit)) (now (lists .exit)) (r .fault)) ⌝ }
 {
-    let keys: [u64; 0] = [];
+    let given: [u64; 0] = [];
     let r = take_turns(
         sections,
         bytes,
@@ -416,13 +488,13 @@ pub fn last_rounds(
         known,
         infos,
         lists,
-        k,
-        v,
+        keys,
+        values,
         code,
         room,
-        &keys,
+        &given,
         Run {
-            count: n,
+            count,
             at: 0,
             stage: 2,
             fault: 0,

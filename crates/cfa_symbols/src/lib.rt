@@ -18,12 +18,12 @@ use cfa_entries::Entries;
 use obj_rows::symbols::Symbol;
 
 // The end that a symbol's size gives, if it is known; 0 for none.
-fn end_of(key: u64, s: Symbol) -> u64
+fn end_of(key: u64, symbol: Symbol) -> u64
     requires { ⌜ key < 0x10_0000_0000 ⌝ }
-    ensures { λ r. ⌜ r ≡ if (eqb (s .known) 1) (key + s .size) 0 ⌝ }
+    ensures { λ r. ⌜ r ≡ if (eqb (symbol .known) 1) (key + symbol .size) 0 ⌝ }
 {
-    if s.known == 1 {
-        return key + obj::sections::wide(s.size);
+    if symbol.known == 1 {
+        return key + obj::sections::wide(symbol.size);
     }
     0
 }
@@ -34,17 +34,23 @@ fn add_symbol(
     infos: &mut [u64; entries::INFOS],
     lists: &[u64],
     code: obj::sections::Code,
-    n: usize,
+    count: usize,
     room: usize,
-    s: Symbol,
+    symbol: Symbol,
 ) -> Entries
-    requires good { ⌜ Good n (now known) (now infos) (now lists) ⌝ }
+    requires good { ⌜ Good count (now known) (now infos) (now lists) ⌝ }
     requires low { ⌜ code .number < 16 ⌝ }
-    ensures { λ r. ⌜ ((l : Lent) (es : List Entry) → IsCode l code → Holds n (now (known .entry)) (now (infos .entry)) (now (lists .entry)) es → Entered (rules.add-symbol (image l) (capacity room (now (lists .entry))) (given.symbol-of (symbol-of s)) es) (r .count) (now (known .exit)) (now (infos .exit)) (now (lists .entry)) (r .fault)) ⌝ }
+    ensures { λ r.
+        ⌜ ((l : Lent) (es : List Entry) →
+        IsCode l code →
+        Holds count (now (known .entry)) (now (infos .entry)) (now (lists .entry)) es →
+        Entered
+        (rules.add-symbol (image l) (capacity room (now (lists .entry))) (given.symbol-of (symbol-of symbol)) es)
+        (r .count) (now (known .exit)) (now (infos .exit)) (now (lists .entry)) (r .fault)) ⌝ }
 {
-    let key = code.number * 0x1_0000_0000 + obj::sections::wide(s.address);
-    let end = end_of(key, s);
-    let r = entry_changes::set_end(known, infos, lists, n, room, key, end);
+    let key = code.number * 0x1_0000_0000 + obj::sections::wide(symbol.address);
+    let end = end_of(key, symbol);
+    let r = entry_changes::set_end(known, infos, lists, count, room, key, end);
     Entries {
         count: r.count,
         fault: r.fault,
@@ -62,7 +68,11 @@ fn add_symbols(
 ) -> Entries
     requires image { ⌜ Listed (now functions) code ⌝ }
     requires sizes { ⌜ (length (now known) ≡ KNOWN) × (length (now infos) ≡ INFOS) ⌝ }
-    ensures { λ r. ⌜ ((l : Lent) → Lists l (now (functions .entry)) code → Entered (rules.add-symbols (image l) (capacity room (now (lists .entry))) (image l .functions) []) (r .count) (now (known .exit)) (now (infos .exit)) (now (lists .entry)) (r .fault)) ⌝ }
+    ensures { λ r.
+        ⌜ ((l : Lent) →
+        Lists l (now (functions .entry)) code →
+        Entered (rules.add-symbols (image l) (capacity room (now (lists .entry))) (image l .functions) []) (r .count)
+        (now (known .exit)) (now (infos .exit)) (now (lists .entry)) (r .fault)) ⌝ }
 {
     let mut r = Entries { count: 0, fault: 0 };
     let mut at: usize = 0;
@@ -88,7 +98,11 @@ pub fn first_entries(
 ) -> Entries
     requires image { ⌜ Listed (now functions) code ⌝ }
     requires sizes { ⌜ (length (now known) ≡ KNOWN) × (length (now infos) ≡ INFOS) ⌝ }
-    ensures { λ r. ⌜ ((l : Lent) → Lists l (now (functions .entry)) code → Entered (rules.first-entries (image l) (capacity room (now (lists .entry)))) (r .count) (now (known .exit)) (now (infos .exit)) (now (lists .entry)) (r .fault)) ⌝ }
+    ensures { λ r.
+        ⌜ ((l : Lent) →
+        Lists l (now (functions .entry)) code →
+        Entered (rules.first-entries (image l) (capacity room (now (lists .entry)))) (r .count) (now (known .exit))
+        (now (infos .exit)) (now (lists .entry)) (r .fault)) ⌝ }
 {
     let r = add_symbols(functions, known, infos, lists, code, room);
     if r.fault != 0 {

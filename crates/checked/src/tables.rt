@@ -197,11 +197,11 @@ fn print_image(
 }
 
 // Takes the numbers apart into the lists of an image, of which list i lies from `from[i]` up to `to[i]`.
-pub fn print_parts(numbers: &[u32], bytes: &[u8], n: usize, from: [usize; 9], to: [usize; 9]) {
-    if n <= bytes.len() {
+pub fn print_parts(numbers: &[u32], bytes: &[u8], count: usize, from: [usize; 9], to: [usize; 9]) {
+    if count <= bytes.len() {
         print_image(
             lines::part(numbers, from[0], to[0]),
-            &bytes[0..n],
+            &bytes[0..count],
             lines::part(numbers, from[1], to[1]),
             lines::part(numbers, from[2], to[2]),
             lines::part(numbers, from[3], to[3]),

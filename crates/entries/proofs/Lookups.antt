@@ -22,7 +22,7 @@ use Rattle.ordered.specs.Part.{IsFound}
 use Rattle.ordered.specs.declared.Found.{Found}
 use Rattle.blocks.specs.Table.{rows}
 use Rattle.blocks.proofs.Rows as blocks
-use Rattle.lists.specs.View.{part}
+use Rattle.function_slices.specs.View.{part}
 use Rattle.known.specs.Table.{known-rows, as-block, Kept, Knows}
 use Rattle.known.proofs.Entries.{table, has-entry}
 use Rattle.entries.specs.Columns.{small-of}

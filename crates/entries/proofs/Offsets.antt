@@ -12,17 +12,17 @@ use Rattle.rules.specs.Choice.{ok}
 use Rattle.rules.specs.Slices.{Slices}
 use Rattle.rules.specs.Known.{Entry, new-entry}
 use Rattle.rules.specs.OneFunction.{numbers}
-use Rattle.lists.specs.View.{Is}
-use Rattle.lists.specs.declared.Small.{Small}
+use Rattle.function_slices.specs.View.{Is}
+use Rattle.function_slices.specs.declared.Small.{Small}
 use Rattle.entries.specs.Columns.{small-of, numbers-long, Limits, Keys, Values}
 use Rattle.entries.specs.Table.{odd, small-from, row-size, sizes, Holds, Good}
 use Rattle.entries.proofs.Loading.{lists-loaded}
 use Rattle.entries.proofs.Rows.{row-within, offset-is, size-is, numbers-within, numbers-at, limits-at, right-here, small-here, numbers-here}
-use Rattle.lists.specs.Places.{KEYS, VALUES}
+use Rattle.function_slices.specs.Places.{KEYS, VALUES}
 
 -- ---- a row read
 
-small-all : {b b′ w w′ r r′ t t′ q q′ p p′ e e′ : ℕ} {c c′ i i′ l l′ f f′ : Bool} → b ≡ b′ → w ≡ w′ → r ≡ r′ → t ≡ t′ → q ≡ q′ → p ≡ p′ → e ≡ e′ → c ≡ c′ → i ≡ i′ → l ≡ l′ → f ≡ f′ → _≡_ {A = Small} (record { blocks = b; ways = w; references = r; tables = t; possible = q; prologue = p; epilogue = e; conditional = c; rfi = i; load = l; finalized = f; fault = 0 }) (record { blocks = b′; ways = w′; references = r′; tables = t′; possible = q′; prologue = p′; epilogue = e′; conditional = c′; rfi = i′; load = l′; finalized = f′; fault = 0 })
+small-all : {b b′ w w′ r r′ t t′ q q′ p p′ e e′ : ℕ} {c c′ i i′ l l′ f f′ : Bool} → b ≡ b′ → w ≡ w′ → r ≡ r′ → t ≡ t′ → q ≡ q′ → p ≡ p′ → e ≡ e′ → c ≡ c′ → i ≡ i′ → l ≡ l′ → f ≡ f′ → _≡_ {A = Small} (record { blocks = b; branches = w; «function_references» = r; «jump_table_references» = t; «possible_blocks» = q; prologue = p; epilogue = e; conditional = c; rfi = i; load = l; finalized = f; fault = 0 }) (record { blocks = b′; branches = w′; «function_references» = r′; «jump_table_references» = t′; «possible_blocks» = q′; prologue = p′; epilogue = e′; conditional = c′; rfi = i′; load = l′; finalized = f′; fault = 0 })
 small-all a b c d e f g h i j k = cc
 
 module _ (infos : List ℕ) (p : ℕ) where
@@ -34,7 +34,7 @@ module _ (infos : List ℕ) (p : ℕ) where
 
   pub row-read : {b w r t q : ℕ} {c i l f : Bool} → b ≡ getD infos (p + 3) 0 → w ≡ getD infos (p + 4) 0 → r ≡ getD infos (p + 5) 0 → t ≡ getD infos (p + 6) 0 → q ≡ getD infos (p + 7) 0
       → c ≡ odd (getD infos p 0 / 2 / 2) → i ≡ odd (getD infos p 0 / 2 / 2 / 2) → l ≡ odd (getD infos p 0 / 2 / 2 / 2 / 2) → f ≡ odd (getD infos p 0 / 2 / 2 / 2 / 2 / 2)
-      → _≡_ {A = Small} (record { blocks = b; ways = w; references = r; tables = t; possible = q; prologue = getD infos (p + 1) 0; epilogue = getD infos (p + 2) 0; conditional = c; rfi = i; load = l; finalized = f; fault = 0 }) (small-from (drop p infos))
+      → _≡_ {A = Small} (record { blocks = b; branches = w; «function_references» = r; «jump_table_references» = t; «possible_blocks» = q; prologue = getD infos (p + 1) 0; epilogue = getD infos (p + 2) 0; conditional = c; rfi = i; load = l; finalized = f; fault = 0 }) (small-from (drop p infos))
   row-read eb ew er et eq ec ei el ef =
       small-all (eb ∙ at 3) (ew ∙ at 4) (er ∙ at 5) (et ∙ at 6) (eq ∙ at 7) (at 1) (at 2) (ec ∙ ap (λ (x : ℕ). odd (x / 2 / 2)) at0) (ei ∙ ap (λ (x : ℕ). odd (x / 2 / 2 / 2)) at0)
       (el ∙ ap (λ (x : ℕ). odd (x / 2 / 2 / 2 / 2)) at0) (ef ∙ ap (λ (x : ℕ). odd (x / 2 / 2 / 2 / 2 / 2)) at0)

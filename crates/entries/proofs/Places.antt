@@ -5,9 +5,9 @@ use Prim.Native.Nat.{ℕ, _+_, _≤_}
 use native.Mathlib.Omega.{arith}
 use lib.ListN.{length, take, drop, length-append, length-drop}
 use lib.Seq.{paste, take-all, drop-drop, drop-at, take-append-le, drop-append-le, length-take-le}
-use Rattle.lists.specs.View.{part, Parts, parts-of}
-use Rattle.lists.specs.declared.Small.{Small}
-use Rattle.lists.proofs.Parts.{Lent, over, lent, part-length, parts-are}
+use Rattle.function_slices.specs.View.{part, Parts, parts-of}
+use Rattle.function_slices.specs.declared.Small.{Small}
+use Rattle.function_slices.proofs.Parts.{Lent, over, lent, part-length, parts-are}
 use Rattle.entries.specs.Columns.{at-froms, at-tos, at-references, at-addresses, at-sizes, at-possible, numbers-long, cut, Limits, Keys, Values}
 
 -- a copy as a part that was lent
@@ -25,45 +25,45 @@ copied xs a l at n xs′ room long e = pasted xs a n (take n (drop at l)) xs′ 
 module _ (s : Small) (l : List ℕ) (lim : Limits s) (long : length l ≡ numbers-long s) where
   module _ (k : List ℕ) (lk : length k ≡ 2176) (k1 k2 k3 k4 k5 : List ℕ) where
     pub keys-done : k1 ≡ paste k 0 (take (s .blocks) (drop 0 l)) (s .blocks)
-        → k2 ≡ paste k1 256 (take (s .ways) (drop (at-froms s) l)) (s .ways)
-        → k3 ≡ paste k2 1280 (take (s .references) (drop (at-references s) l)) (s .references)
-        → k4 ≡ paste k3 1536 (take (s .tables) (drop (at-addresses s) l)) (s .tables)
-        → k5 ≡ paste k4 1792 (take (s .possible) (drop (at-possible s) l)) (s .possible) → Keys s l k k5
+        → k2 ≡ paste k1 256 (take (s .branches) (drop (at-froms s) l)) (s .branches)
+        → k3 ≡ paste k2 1280 (take (s .«function_references») (drop (at-references s) l)) (s .«function_references»)
+        → k4 ≡ paste k3 1536 (take (s .«jump_table_references») (drop (at-addresses s) l)) (s .«jump_table_references»)
+        → k5 ≡ paste k4 1792 (take (s .«possible_blocks») (drop (at-possible s) l)) (s .«possible_blocks») → Keys s l k k5
     keys-done e1 e2 e3 e4 e5 =
         let l1 : Lent 0 (s .blocks) k (part 0 (s .blocks) l) k1 = copied k 0 l 0 (s .blocks) k1 (omega (arith, lim .blocks-fit)) (omega arith) e1 in
-        let l2 : Lent 256 (s .ways) k1 (part (at-froms s) (s .ways) l) k2 = copied k1 256 l (at-froms s) (s .ways) k2 (omega (arith, lim .ways-fit, l1 .size)) (omega arith) e2 in
-        let l3 : Lent 1280 (s .references) k2 (part (at-references s) (s .references) l) k3 = copied k2 1280 l (at-references s) (s .references) k3 (omega (arith, lim .references-fit, l1 .size, l2 .size)) (omega arith) e3 in
-        let l4 : Lent 1536 (s .tables) k3 (part (at-addresses s) (s .tables) l) k4 = copied k3 1536 l (at-addresses s) (s .tables) k4 (omega (arith, lim .tables-fit, l1 .size, l2 .size, l3 .size)) (omega arith) e4 in
-        let l5 : Lent 1792 (s .possible) k4 (part (at-possible s) (s .possible) l) k5 = copied k4 1792 l (at-possible s) (s .possible) k5 (omega (arith, lim .possible-fit, l1 .size, l2 .size, l3 .size, l4 .size)) (omega arith) e5 in
+        let l2 : Lent 256 (s .branches) k1 (part (at-froms s) (s .branches) l) k2 = copied k1 256 l (at-froms s) (s .branches) k2 (omega (arith, lim .branches-fit, l1 .size)) (omega arith) e2 in
+        let l3 : Lent 1280 (s .«function_references») k2 (part (at-references s) (s .«function_references») l) k3 = copied k2 1280 l (at-references s) (s .«function_references») k3 (omega (arith, lim .references-fit, l1 .size, l2 .size)) (omega arith) e3 in
+        let l4 : Lent 1536 (s .«jump_table_references») k3 (part (at-addresses s) (s .«jump_table_references») l) k4 = copied k3 1536 l (at-addresses s) (s .«jump_table_references») k4 (omega (arith, lim .tables-fit, l1 .size, l2 .size, l3 .size)) (omega arith) e4 in
+        let l5 : Lent 1792 (s .«possible_blocks») k4 (part (at-possible s) (s .«possible_blocks») l) k5 = copied k4 1792 l (at-possible s) (s .«possible_blocks») k5 (omega (arith, lim .possible-fit, l1 .size, l2 .size, l3 .size, l4 .size)) (omega arith) e5 in
         let f1 : s .blocks ≤ 256 = lim .blocks-fit in
-        let f2 : s .ways ≤ 1024 = lim .ways-fit in
-        let f3 : s .references ≤ 256 = lim .references-fit in
-        let f4 : s .tables ≤ 256 = lim .tables-fit in
-        let f5 : s .possible ≤ 128 = lim .possible-fit in
+        let f2 : s .branches ≤ 1024 = lim .branches-fit in
+        let f3 : s .«function_references» ≤ 256 = lim .references-fit in
+        let f4 : s .«jump_table_references» ≤ 256 = lim .tables-fit in
+        let f5 : s .«possible_blocks» ≤ 128 = lim .possible-fit in
         record {
           size = l5 .size ∙ l4 .size ∙ l3 .size ∙ l2 .size ∙ l1 .size;
           starts = l5 .below 0 (s .blocks) (omega arith) ∙ l4 .below 0 (s .blocks) (omega arith) ∙ l3 .below 0 (s .blocks) (omega arith) ∙ l2 .below 0 (s .blocks) (omega arith) ∙ l1 .here;
-          froms = l5 .below 256 (s .ways) (omega arith) ∙ l4 .below 256 (s .ways) (omega arith) ∙ l3 .below 256 (s .ways) (omega arith) ∙ l2 .here;
-          references = l5 .below 1280 (s .references) (omega arith) ∙ l4 .below 1280 (s .references) (omega arith) ∙ l3 .here;
-          addresses = l5 .below 1536 (s .tables) (omega arith) ∙ l4 .here;
+          froms = l5 .below 256 (s .branches) (omega arith) ∙ l4 .below 256 (s .branches) (omega arith) ∙ l3 .below 256 (s .branches) (omega arith) ∙ l2 .here;
+          references = l5 .below 1280 (s .«function_references») (omega arith) ∙ l4 .below 1280 (s .«function_references») (omega arith) ∙ l3 .here;
+          addresses = l5 .below 1536 (s .«jump_table_references») (omega arith) ∙ l4 .here;
           possible = l5 .here;
           pending = l5 .past 1920 (omega arith) ∙ l4 .past 1920 (omega arith) ∙ l3 .past 1920 (omega arith) ∙ l2 .past 1920 (omega arith) ∙ l1 .past 1920 (omega arith);
         }
 
   module _ (v : List ℕ) (lv : length v ≡ 1536) (v1 v2 v3 : List ℕ) where
     pub values-done : v1 ≡ paste v 0 (take (s .blocks) (drop (s .blocks) l)) (s .blocks)
-        → v2 ≡ paste v1 256 (take (s .ways) (drop (at-tos s) l)) (s .ways)
-        → v3 ≡ paste v2 1280 (take (s .tables) (drop (at-sizes s) l)) (s .tables) → Values s l v v3
+        → v2 ≡ paste v1 256 (take (s .branches) (drop (at-tos s) l)) (s .branches)
+        → v3 ≡ paste v2 1280 (take (s .«jump_table_references») (drop (at-sizes s) l)) (s .«jump_table_references») → Values s l v v3
     values-done e1 e2 e3 =
         let l1 : Lent 0 (s .blocks) v (part (s .blocks) (s .blocks) l) v1 = copied v 0 l (s .blocks) (s .blocks) v1 (omega (arith, lim .blocks-fit)) (omega arith) e1 in
-        let l2 : Lent 256 (s .ways) v1 (part (at-tos s) (s .ways) l) v2 = copied v1 256 l (at-tos s) (s .ways) v2 (omega (arith, lim .ways-fit, l1 .size)) (omega arith) e2 in
-        let l3 : Lent 1280 (s .tables) v2 (part (at-sizes s) (s .tables) l) v3 = copied v2 1280 l (at-sizes s) (s .tables) v3 (omega (arith, lim .tables-fit, l1 .size, l2 .size)) (omega arith) e3 in
+        let l2 : Lent 256 (s .branches) v1 (part (at-tos s) (s .branches) l) v2 = copied v1 256 l (at-tos s) (s .branches) v2 (omega (arith, lim .branches-fit, l1 .size)) (omega arith) e2 in
+        let l3 : Lent 1280 (s .«jump_table_references») v2 (part (at-sizes s) (s .«jump_table_references») l) v3 = copied v2 1280 l (at-sizes s) (s .«jump_table_references») v3 (omega (arith, lim .tables-fit, l1 .size, l2 .size)) (omega arith) e3 in
         let f1 : s .blocks ≤ 256 = lim .blocks-fit in
-        let f2 : s .ways ≤ 1024 = lim .ways-fit in
+        let f2 : s .branches ≤ 1024 = lim .branches-fit in
         record {
           size = l3 .size ∙ l2 .size ∙ l1 .size;
           ends = l3 .below 0 (s .blocks) (omega arith) ∙ l2 .below 0 (s .blocks) (omega arith) ∙ l1 .here;
-          tos = l3 .below 256 (s .ways) (omega arith) ∙ l2 .here;
+          tos = l3 .below 256 (s .branches) (omega arith) ∙ l2 .here;
           sizes = l3 .here;
         }
 
@@ -81,8 +81,8 @@ whole : (m : ℕ) (y : List ℕ) → length y ≡ m → part 0 m y ≡ y
 unfolding part
 whole m y e = take-all m y (omega arith)
 
-module _ (s : Small) (a b c d e f g h : List ℕ) (ea : length a ≡ s .blocks) (eb : length b ≡ s .blocks) (ec : length c ≡ s .ways) (ed : length d ≡ s .ways)
-    (ee : length e ≡ s .references) (ef : length f ≡ s .tables) (eg : length g ≡ s .tables) (eh : length h ≡ s .possible) where
+module _ (s : Small) (a b c d e f g h : List ℕ) (ea : length a ≡ s .blocks) (eb : length b ≡ s .blocks) (ec : length c ≡ s .branches) (ed : length d ≡ s .branches)
+    (ee : length e ≡ s .«function_references») (ef : length f ≡ s .«jump_table_references») (eg : length g ≡ s .«jump_table_references») (eh : length h ≡ s .«possible_blocks») where
   n2 : length (a ++ b) ≡ at-froms s
   n2 = length-append a b ∙ ap₂ (λ (i j : ℕ). i + j) ea eb
 
@@ -127,9 +127,9 @@ module _ (s : Small) (a b c d e f g h : List ℕ) (ea : length a ≡ s .blocks) 
   cut-is =
       parts-are (by2 0 (s .blocks) (omega arith) ∙ left 0 (s .blocks) a b (omega arith) ∙ whole (s .blocks) a ea)
       (by2 (s .blocks) (s .blocks) (omega arith) ∙ end (s .blocks) (s .blocks) a b ea eb)
-      (by3 (at-froms s) (s .ways) (omega arith) ∙ end (at-froms s) (s .ways) (a ++ b) c n2 ec)
-      (by4 (at-tos s) (s .ways) (omega arith) ∙ end (at-tos s) (s .ways) (a ++ b ++ c) d n3 ed)
-      (by5 (at-references s) (s .references) (omega arith) ∙ end (at-references s) (s .references) (a ++ b ++ c ++ d) e n4 ee)
-      (by6 (at-addresses s) (s .tables) (omega arith) ∙ end (at-addresses s) (s .tables) (a ++ b ++ c ++ d ++ e) f n5 ef)
-      (by7 (at-sizes s) (s .tables) (omega arith) ∙ end (at-sizes s) (s .tables) (a ++ b ++ c ++ d ++ e ++ f) g n6 eg)
-      (end (at-possible s) (s .possible) (a ++ b ++ c ++ d ++ e ++ f ++ g) h n7 eh)
+      (by3 (at-froms s) (s .branches) (omega arith) ∙ end (at-froms s) (s .branches) (a ++ b) c n2 ec)
+      (by4 (at-tos s) (s .branches) (omega arith) ∙ end (at-tos s) (s .branches) (a ++ b ++ c) d n3 ed)
+      (by5 (at-references s) (s .«function_references») (omega arith) ∙ end (at-references s) (s .«function_references») (a ++ b ++ c ++ d) e n4 ee)
+      (by6 (at-addresses s) (s .«jump_table_references») (omega arith) ∙ end (at-addresses s) (s .«jump_table_references») (a ++ b ++ c ++ d ++ e) f n5 ef)
+      (by7 (at-sizes s) (s .«jump_table_references») (omega arith) ∙ end (at-sizes s) (s .«jump_table_references») (a ++ b ++ c ++ d ++ e ++ f) g n6 eg)
+      (end (at-possible s) (s .«possible_blocks») (a ++ b ++ c ++ d ++ e ++ f ++ g) h n7 eh)

@@ -13,9 +13,9 @@ use Rattle.rules.specs.Blocks.{Block, startOf}
 use Rattle.rules.specs.Slices.{Slices}
 use Rattle.rules.specs.Known.{Entry, entryOf}
 use Rattle.rules.specs.OneFunction.{numbers}
-use Rattle.lists.specs.View.{Parts, lists-of}
-use Rattle.lists.specs.declared.Small.{Small}
-use Rattle.lists.proofs.Parts.{parts-are}
+use Rattle.function_slices.specs.View.{Parts, lists-of}
+use Rattle.function_slices.specs.declared.Small.{Small}
+use Rattle.function_slices.proofs.Parts.{parts-are}
 use Rattle.known.specs.Table.{known-rows, as-block}
 use Rattle.entries.specs.Columns.{small-of, columns-of, Right, at-froms, at-tos, at-references, at-addresses, at-sizes, at-possible, numbers-long, cut, slices-from}
 use Rattle.entries.specs.Table.{row-of, info-row, numbers-in, entry-numbers, flat, odd, small-from, row-size, entry-from, entries-from, entries-of, RightIn, AllRight, Holds}
@@ -27,9 +27,9 @@ use Rattle.entries.proofs.Lookups.{odd-row, half-row}
 -- what stands behind a function's numbers is none of its columns
 cut-front : (s : Small) (l y : List ℕ) → length l ≡ numbers-long s → cut s (l ++ y) ≡ cut s l
 cut-front s l y e =
-    parts-are (left 0 (s .blocks) l y (omega arith)) (left (s .blocks) (s .blocks) l y (omega arith)) (left (at-froms s) (s .ways) l y (omega arith)) (left (at-tos s) (s .ways) l y (omega arith))
-    (left (at-references s) (s .references) l y (omega arith)) (left (at-addresses s) (s .tables) l y (omega arith)) (left (at-sizes s) (s .tables) l y (omega arith))
-    (left (at-possible s) (s .possible) l y (omega arith))
+    parts-are (left 0 (s .blocks) l y (omega arith)) (left (s .blocks) (s .blocks) l y (omega arith)) (left (at-froms s) (s .branches) l y (omega arith)) (left (at-tos s) (s .branches) l y (omega arith))
+    (left (at-references s) (s .«function_references») l y (omega arith)) (left (at-addresses s) (s .«jump_table_references») l y (omega arith)) (left (at-sizes s) (s .«jump_table_references») l y (omega arith))
+    (left (at-possible s) (s .«possible_blocks») l y (omega arith))
 
 slices-read : (a : Bool) (s : Slices) (z y : List ℕ) → Right s → slices-from (small-from (row-of a (some s) ++ z)) (numbers s ++ y) ≡ s
 slices-read a s z y r =

@@ -11,7 +11,7 @@ use lib.Seq.{drop-at, take-at, drop-drop, length-take-le, split-at}
 use Rattle.rules.specs.Slices.{Slices}
 use Rattle.rules.specs.Known.{Entry, entryOf, new-entry}
 use Rattle.rules.specs.OneFunction.{numbers}
-use Rattle.lists.specs.declared.Small.{Small}
+use Rattle.function_slices.specs.declared.Small.{Small}
 use Rattle.blocks.proofs.Rows.{length-rows}
 use Rattle.known.specs.Table.{as-block, Kept, Knows}
 use Rattle.known.proofs.Entries.{table}
@@ -36,7 +36,7 @@ odd-last true = refl
 odd-last false = refl
 
 -- a Small but for the tests
-small-are : (s : Small) {c c′ i i′ l l′ f f′ : Bool} → c ≡ c′ → i ≡ i′ → l ≡ l′ → f ≡ f′ → _≡_ {A = Small} (record { blocks = s .blocks; ways = s .ways; references = s .references; tables = s .tables; possible = s .possible; prologue = s .prologue; epilogue = s .epilogue; conditional = c; rfi = i; load = l; finalized = f; fault = 0 }) (record { blocks = s .blocks; ways = s .ways; references = s .references; tables = s .tables; possible = s .possible; prologue = s .prologue; epilogue = s .epilogue; conditional = c′; rfi = i′; load = l′; finalized = f′; fault = 0 })
+small-are : (s : Small) {c c′ i i′ l l′ f f′ : Bool} → c ≡ c′ → i ≡ i′ → l ≡ l′ → f ≡ f′ → _≡_ {A = Small} (record { blocks = s .blocks; branches = s .branches; «function_references» = s .«function_references»; «jump_table_references» = s .«jump_table_references»; «possible_blocks» = s .«possible_blocks»; prologue = s .prologue; epilogue = s .epilogue; conditional = c; rfi = i; load = l; finalized = f; fault = 0 }) (record { blocks = s .blocks; branches = s .branches; «function_references» = s .«function_references»; «jump_table_references» = s .«jump_table_references»; «possible_blocks» = s .«possible_blocks»; prologue = s .prologue; epilogue = s .epilogue; conditional = c′; rfi = i′; load = l′; finalized = f′; fault = 0 })
 small-are s a b c d = cc
 
 module _ (a : Bool) (s : Slices) (z : List ℕ) where
@@ -77,7 +77,7 @@ row-numbers a (some s) z = ap numbers-long (small-read a s z) ∙ sym (numbers-s
 
 pub row-limits : (a : Bool) (o : Option Slices) (z : List ℕ) → RightIn o → Limits (small-from (row-of a o ++ z))
 row-limits a none z r =
-    record { blocks-fit = omega arith; ways-fit = omega arith; references-fit = omega arith; tables-fit = omega arith; possible-fit = omega arith }
+    record { blocks-fit = omega arith; branches-fit = omega arith; references-fit = omega arith; tables-fit = omega arith; possible-fit = omega arith }
 row-limits a (some s) z r = rw (small-read a s z) (right-limits s r)
 
 -- ---- all of them

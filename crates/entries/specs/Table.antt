@@ -13,7 +13,7 @@ use Rattle.rules.specs.Slices.{Slices}
 use Rattle.rules.specs.Known.{Entry}
 use Rattle.rules.specs.Map.{Capacity}
 use Rattle.rules.specs.OneFunction.{numbers}
-use Rattle.lists.specs.declared.Small.{Small}
+use Rattle.function_slices.specs.declared.Small.{Small}
 use Rattle.known.specs.Table.{known-rows, Kept, Knows}
 use Rattle.entries.specs.Columns.{small-of, Right, numbers-long, slices-from}
 
@@ -36,7 +36,7 @@ flags a s = flag a + 2 * (1 + 2 * (flag (s .conditional) + 2 * (flag (s .rfi) + 
 
 abbrev pub row : Bool → Small → List ℕ
 row a s =
-    flags a s ∷ s .prologue ∷ s .epilogue ∷ s .blocks ∷ s .ways ∷ s .references ∷ s .tables ∷ s .possible ∷ []
+    flags a s ∷ s .prologue ∷ s .epilogue ∷ s .blocks ∷ s .branches ∷ s .«function_references» ∷ s .«jump_table_references» ∷ s .«possible_blocks» ∷ []
 
 abbrev pub row-of : Bool → Option Slices → List ℕ
 row-of a none = flag a ∷ 0 ∷ 0 ∷ 0 ∷ 0 ∷ 0 ∷ 0 ∷ 0 ∷ []
@@ -69,7 +69,7 @@ odd x = eqb (x % 2) 1
 
 abbrev pub small-from : List ℕ → Small
 small-from r =
-    record { blocks = getD r 3 0; ways = getD r 4 0; references = getD r 5 0; tables = getD r 6 0; possible = getD r 7 0; prologue = getD r 1 0; epilogue = getD r 2 0; conditional = odd (getD r 0 0 / 2 / 2); rfi = odd (getD r 0 0 / 2 / 2 / 2); load = odd (getD r 0 0 / 2 / 2 / 2 / 2); finalized = odd (getD r 0 0 / 2 / 2 / 2 / 2 / 2); fault = 0 }
+    record { blocks = getD r 3 0; branches = getD r 4 0; «function_references» = getD r 5 0; «jump_table_references» = getD r 6 0; «possible_blocks» = getD r 7 0; prologue = getD r 1 0; epilogue = getD r 2 0; conditional = odd (getD r 0 0 / 2 / 2); rfi = odd (getD r 0 0 / 2 / 2 / 2); load = odd (getD r 0 0 / 2 / 2 / 2 / 2); finalized = odd (getD r 0 0 / 2 / 2 / 2 / 2 / 2); fault = 0 }
 
 -- how many numbers the lists of a row take
 abbrev pub row-size : List ℕ → ℕ

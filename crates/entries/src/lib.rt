@@ -13,12 +13,12 @@ ghost use Rattle.rules.specs.Slices.{Slices};
 ghost use Rattle.rules.specs.Known as rules;
 ghost use Rattle.rules.specs.Known.{Entry, new-entry};
 ghost use Rattle.rules.specs.Map.{first-unbounded-function};
-ghost use Rattle.lists.specs.View.{Is};
+ghost use Rattle.function_slices.specs.View.{Is};
 ghost use Rattle.known.specs.Table.{Kept, Knows};
 ghost use Rattle.entries.specs.Columns.{numbers-long, Limits, Keys, Values};
 ghost use Rattle.entries.specs.Table.{odd, small-from, row-size, sizes, Holds, Good};
-ghost use Rattle.lists.specs.Places.{KEYS, VALUES};
-use lists::places;
+ghost use Rattle.function_slices.specs.Places.{KEYS, VALUES};
+use function_slices::places;
 
 // How long the two slices of fixed length are: entries with their ends, and rows of eight.
 pub const KNOWN: usize = 2048;
@@ -40,19 +40,19 @@ fn count(x: u64) -> usize
 }
 
 // The row from p on: the counts of a function's lists, and what is no list.
-pub fn read_row(infos: &[u64], p: usize) -> lists::Small
+pub fn read_row(infos: &[u64], p: usize) -> function_slices::Small
     requires { ⌜ p + 8 ≤ length (now infos) ⌝ }
     ensures { λ r. ⌜ r ≡ small-from (drop p (now (infos .entry))) ⌝ }
 {
     let f = infos[p] / 2 / 2;
     let g = f / 2;
     let h = g / 2;
-    lists::Small {
+    function_slices::Small {
         blocks: count(infos[p + 3]),
-        ways: count(infos[p + 4]),
-        references: count(infos[p + 5]),
-        tables: count(infos[p + 6]),
-        possible: count(infos[p + 7]),
+        branches: count(infos[p + 4]),
+        function_references: count(infos[p + 5]),
+        jump_table_references: count(infos[p + 6]),
+        possible_blocks: count(infos[p + 7]),
         prologue: infos[p + 1],
         epilogue: infos[p + 2],
         conditional: is_odd(f),
@@ -64,14 +64,14 @@ pub fn read_row(infos: &[u64], p: usize) -> lists::Small
 }
 
 // How many numbers the lists take, where that is at most `room`.
-pub fn size(s: lists::Small, room: usize) -> usize
-    requires { ⌜ numbers-long s ≤ room ⌝ }
-    ensures { λ r. ⌜ r ≡ numbers-long s ⌝ }
+pub fn size(slices: function_slices::Small, room: usize) -> usize
+    requires { ⌜ numbers-long slices ≤ room ⌝ }
+    ensures { λ r. ⌜ r ≡ numbers-long slices ⌝ }
 {
-    let a = s.blocks + s.blocks;
-    let b = a + s.ways + s.ways;
-    let c = b + s.references + s.tables;
-    c + s.tables + s.possible
+    let a = slices.blocks + slices.blocks;
+    let b = a + slices.branches + slices.branches;
+    let c = b + slices.function_references + slices.jump_table_references;
+    c + slices.jump_table_references + slices.possible_blocks
 }
 
 // How many numbers stand before those of row i, where that is at most `room`.
@@ -90,42 +90,48 @@ pub fn offset(infos: &[u64], i: usize, room: usize) -> usize
     sum
 }
 
-// The n numbers of l from at on, into xs from a on.
-fn put(xs: &mut [u64], a: usize, l: &[u64], at: usize, n: usize)
-    requires { ⌜ (at + n ≤ length (now l)) × (a + n ≤ length (now xs)) ⌝ }
-    ensures { λ _. ⌜ now (xs .exit) ≡ paste (now (xs .entry)) a (take n (drop at (now (l .entry)))) n ⌝ }
+// The `count` numbers of l from at on, into xs from a on.
+fn put(xs: &mut [u64], a: usize, l: &[u64], at: usize, count: usize)
+    requires { ⌜ (at + count ≤ length (now l)) × (a + count ≤ length (now xs)) ⌝ }
+    ensures { λ _. ⌜ now (xs .exit) ≡ paste (now (xs .entry)) a (take count (drop at (now (l .entry)))) count ⌝ }
 {
-    let until = at + n;
-    runs::copy_in(xs, a, &l[at..until], n);
+    let until = at + count;
+    runs::copy_in(xs, a, &l[at..until], count);
 }
 
 // The keys among a function's numbers.
-fn put_keys(k: &mut [u64], l: &[u64], s: lists::Small)
-    requires { ⌜ Limits s × (length (now l) ≡ numbers-long s) × (length (now k) ≡ KEYS) ⌝ }
-    ensures { λ _. ⌜ Keys s (now (l .entry)) (now (k .entry)) (now (k .exit)) ⌝ }
+fn put_keys(keys: &mut [u64], l: &[u64], slices: function_slices::Small)
+    requires { ⌜ Limits slices × (length (now l) ≡ numbers-long slices) × (length (now keys) ≡ KEYS) ⌝ }
+    ensures { λ _. ⌜ Keys slices (now (l .entry)) (now (keys .entry)) (now (keys .exit)) ⌝ }
 {
-    let b = s.blocks + s.blocks;
-    let c = b + s.ways + s.ways;
-    let d = c + s.references;
-    let e = d + s.tables + s.tables;
-    put(k, places::AT_BLOCKS, l, 0, s.blocks);
-    put(k, places::AT_BRANCHES, l, b, s.ways);
-    put(k, places::AT_REFERENCES, l, c, s.references);
-    put(k, places::AT_TABLES, l, d, s.tables);
-    put(k, places::AT_POSSIBLE, l, e, s.possible);
+    let b = slices.blocks + slices.blocks;
+    let c = b + slices.branches + slices.branches;
+    let d = c + slices.function_references;
+    let e = d + slices.jump_table_references + slices.jump_table_references;
+    put(keys, places::AT_BLOCKS, l, 0, slices.blocks);
+    put(keys, places::AT_BRANCHES, l, b, slices.branches);
+    put(
+        keys,
+        places::AT_REFERENCES,
+        l,
+        c,
+        slices.function_references,
+    );
+    put(keys, places::AT_TABLES, l, d, slices.jump_table_references);
+    put(keys, places::AT_POSSIBLE, l, e, slices.possible_blocks);
 }
 
 // The values among them.
-fn put_values(v: &mut [u64], l: &[u64], s: lists::Small)
-    requires { ⌜ Limits s × (length (now l) ≡ numbers-long s) × (length (now v) ≡ VALUES) ⌝ }
-    ensures { λ _. ⌜ Values s (now (l .entry)) (now (v .entry)) (now (v .exit)) ⌝ }
+fn put_values(values: &mut [u64], l: &[u64], slices: function_slices::Small)
+    requires { ⌜ Limits slices × (length (now l) ≡ numbers-long slices) × (length (now values) ≡ VALUES) ⌝ }
+    ensures { λ _. ⌜ Values slices (now (l .entry)) (now (values .entry)) (now (values .exit)) ⌝ }
 {
-    let a = s.blocks;
-    let b = a + a + s.ways;
-    let c = b + s.ways + s.references + s.tables;
-    put(v, places::AT_BLOCKS, l, a, a);
-    put(v, places::AT_BRANCHES, l, b, s.ways);
-    put(v, places::AT_SIZES, l, c, s.tables);
+    let a = slices.blocks;
+    let b = a + a + slices.branches;
+    let c = b + slices.branches + slices.function_references + slices.jump_table_references;
+    put(values, places::AT_BLOCKS, l, a, a);
+    put(values, places::AT_BRANCHES, l, b, slices.branches);
+    put(values, places::AT_SIZES, l, c, slices.jump_table_references);
 }
 
 // The lists of entry i, which has some.
@@ -133,31 +139,38 @@ pub fn load(
     known: &[u64],
     infos: &[u64],
     lists: &[u64],
-    n: usize,
+    count: usize,
     i: usize,
-    k: &mut [u64],
-    v: &mut [u64],
-) -> lists::Small
-    requires table { ⌜ Good n (now known) (now infos) (now lists) × (i < n) ⌝ }
-    requires lent { ⌜ (length (now k) ≡ KEYS) × (length (now v) ≡ VALUES) ⌝ }
-    ensures { λ r. ⌜ ((es : List Entry) (s : Slices) → Holds n (now (known .entry)) (now (infos .entry)) (now (lists .entry)) es → getD es i (new-entry 0) .slices ≡ some s → Is (ok s) (now (k .entry)) (now (k .exit)) (now (v .exit)) r) ⌝ }
+    keys: &mut [u64],
+    values: &mut [u64],
+) -> function_slices::Small
+    requires table { ⌜ Good count (now known) (now infos) (now lists) × (i < count) ⌝ }
+    requires lent { ⌜ (length (now keys) ≡ KEYS) × (length (now values) ≡ VALUES) ⌝ }
+    ensures { λ r.
+        ⌜ ((es : List Entry) (s : Slices) →
+        Holds count (now (known .entry)) (now (infos .entry)) (now (lists .entry)) es →
+        getD es i (new-entry 0) .slices ≡ some s →
+        Is (ok s) (now (keys .entry)) (now (keys .exit)) (now (values .exit)) r) ⌝ }
 {
     let s = read_row(infos, i * 8);
     let room = lists.len();
     let at = offset(infos, i, room);
     let until = at + size(s, room);
-    put_keys(k, &lists[at..until], s);
-    put_values(v, &lists[at..until], s);
+    put_keys(keys, &lists[at..until], s);
+    put_values(values, &lists[at..until], s);
     s
 }
 
 // The first entry that is not analyzed; 0 for none.
-pub fn first_unbounded_function(known: &[u64], infos: &[u64], lists: &[u64], n: usize) -> u64
-    requires { ⌜ Good n (now known) (now infos) (now lists) ⌝ }
-    ensures { λ r. ⌜ ((es : List Entry) → Holds n (now (known .entry)) (now (infos .entry)) (now (lists .entry)) es → r ≡ first-unbounded-function es) ⌝ }
+pub fn first_unbounded_function(known: &[u64], infos: &[u64], lists: &[u64], count: usize) -> u64
+    requires { ⌜ Good count (now known) (now infos) (now lists) ⌝ }
+    ensures { λ r.
+        ⌜ ((es : List Entry) →
+        Holds count (now (known .entry)) (now (infos .entry)) (now (lists .entry)) es →
+        r ≡ first-unbounded-function es) ⌝ }
 {
     let mut i: usize = 0;
-    while i < n {
+    while i < count {
         if is_odd(infos[i * 8]) {
             i += 1;
         } else {
@@ -181,21 +194,27 @@ fn lacks_end(flags: u64, end: u64) -> bool
 }
 
 // Whether entry i is analyzed, with lists and no end.
-pub fn is_unfinalized(known: &[u64], infos: &[u64], lists: &[u64], n: usize, i: usize) -> bool
-    requires { ⌜ Good n (now known) (now infos) (now lists) × (i < n) ⌝ }
-    ensures { λ r. ⌜ ((es : List Entry) → Holds n (now (known .entry)) (now (infos .entry)) (now (lists .entry)) es → r ≡ rules.is-unfinalized (getD es i (new-entry 0))) ⌝ }
+pub fn is_unfinalized(known: &[u64], infos: &[u64], lists: &[u64], count: usize, i: usize) -> bool
+    requires { ⌜ Good count (now known) (now infos) (now lists) × (i < count) ⌝ }
+    ensures { λ r.
+        ⌜ ((es : List Entry) →
+        Holds count (now (known .entry)) (now (infos .entry)) (now (lists .entry)) es →
+        r ≡ rules.is-unfinalized (getD es i (new-entry 0))) ⌝ }
 {
     lacks_end(infos[i * 8], known[known::AT_ENDS + i])
 }
 
 // Whether one of them is.
-pub fn any_unfinalized(known: &[u64], infos: &[u64], lists: &[u64], n: usize) -> bool
-    requires { ⌜ Good n (now known) (now infos) (now lists) ⌝ }
-    ensures { λ r. ⌜ ((es : List Entry) → Holds n (now (known .entry)) (now (infos .entry)) (now (lists .entry)) es → r ≡ any rules.is-unfinalized es) ⌝ }
+pub fn any_unfinalized(known: &[u64], infos: &[u64], lists: &[u64], count: usize) -> bool
+    requires { ⌜ Good count (now known) (now infos) (now lists) ⌝ }
+    ensures { λ r.
+        ⌜ ((es : List Entry) →
+        Holds count (now (known .entry)) (now (infos .entry)) (now (lists .entry)) es →
+        r ≡ any rules.is-unfinalized es) ⌝ }
 {
     let mut i: usize = 0;
-    while i < n {
-        if is_unfinalized(known, infos, lists, n, i) {
+    while i < count {
+        if is_unfinalized(known, infos, lists, count, i) {
             return true;
         }
         i += 1;
@@ -203,14 +222,14 @@ pub fn any_unfinalized(known: &[u64], infos: &[u64], lists: &[u64], n: usize) ->
     false
 }
 
-// The end of the entry at k; 0 for none.
-pub fn end_of_entry(known: &[u64], n: usize, k: u64) -> u64
-    requires { ⌜ Kept n (now known) ⌝ }
-    ensures { λ r. ⌜ ((es : List Entry) → Knows n (now (known .entry)) es → r ≡ rules.end-of-entry k es) ⌝ }
+// The end of the entry at `key`; 0 for none.
+pub fn end_of_entry(known: &[u64], count: usize, key: u64) -> u64
+    requires { ⌜ Kept count (now known) ⌝ }
+    ensures { λ r. ⌜ ((es : List Entry) → Knows count (now (known .entry)) es → r ≡ rules.end-of-entry key es) ⌝ }
 {
     let a: usize = 0;
     let b: usize = known::AT_ENDS;
-    let f = ordered::find(&known[a..b], n, k);
+    let f = ordered::find(&known[a..b], count, key);
     if f.hit {
         let at = f.at;
         return known[known::AT_ENDS + at];

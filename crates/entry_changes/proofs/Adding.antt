@@ -19,8 +19,8 @@ use Rattle.ordered.specs.Columns.{join}
 use Rattle.ordered.specs.Part.{Inserted, IsFound}
 use Rattle.ordered.specs.declared.Found.{Found}
 use Rattle.ordered.proofs.Columns.{rows-change, inserting, inserts}
-use Rattle.lists.specs.View.{part}
-use Rattle.lists.proofs.Parts.{Lent, over, lent, part-length}
+use Rattle.function_slices.specs.View.{part}
+use Rattle.function_slices.proofs.Parts.{Lent, over, lent, part-length}
 use Rattle.runs.specs.Runs.{Fits, spliced}
 use Rattle.known.specs.Table.{known-rows, as-block, Kept, Knows}
 use Rattle.entries.specs.Table.{info-row, entry-numbers, flat, Begins, Holds, Good, capacity, Told}

@@ -131,7 +131,7 @@ mark-row a none P Z at e =
     set-at P (flag a) _ _ at (sym e) ∙ ap (λ (v : ℕ). P ++ (v ∷ (0 ∷ 0 ∷ 0 ∷ 0 ∷ 0 ∷ 0 ∷ 0 ∷ Z))) (ap marked (getD-at P (flag a) _ 0 at (sym e)) ∙ marked-bit a)
 mark-row a (some s) P Z at e =
     set-at P (flags a (small-of s)) _ _ at (sym e)
-    ∙ ap (λ (v : ℕ). P ++ (v ∷ (small-of s .prologue ∷ small-of s .epilogue ∷ small-of s .blocks ∷ small-of s .ways ∷ small-of s .references ∷ small-of s .tables ∷ small-of s .possible ∷ Z)))
+    ∙ ap (λ (v : ℕ). P ++ (v ∷ (small-of s .prologue ∷ small-of s .epilogue ∷ small-of s .blocks ∷ small-of s .branches ∷ small-of s .«function_references» ∷ small-of s .«jump_table_references» ∷ small-of s .«possible_blocks» ∷ Z)))
     (ap marked (getD-at P (flags a (small-of s)) _ 0 at (sym e)) ∙ marked-flag a _)
 
 -- a row's flags are few

@@ -19,9 +19,9 @@ use Rattle.rules.specs.Known.{Entry, entryOf, new-entry}
 use Rattle.rules.specs.OneFunction.{numbers}
 use Rattle.ordered.specs.Columns.{join}
 use Rattle.ordered.specs.Part.{Replaced}
-use Rattle.lists.specs.View.{part, view, Fit}
-use Rattle.lists.specs.declared.Small.{Small}
-use Rattle.lists.proofs.Parts.{Lent, over, lent, part-length}
+use Rattle.function_slices.specs.View.{part, view, Fit}
+use Rattle.function_slices.specs.declared.Small.{Small}
+use Rattle.function_slices.proofs.Parts.{Lent, over, lent, part-length}
 use Rattle.blocks.specs.Table.{rows}
 use Rattle.blocks.proofs.Puts.{row-set}
 use Rattle.blocks.proofs.Rows.{row-at}
@@ -57,7 +57,7 @@ pub flag-small : (r : ℕ) (b : Bool) → r ≡ flag b → r ≤ 1
 flag-small r true e = omega arith
 flag-small r false e = omega arith
 
-pub row-put : (l : List ℕ) (p : ℕ) (s : Small) → p + 8 ≤ length l → {a d e f g h : ℕ} → a ≡ flags true s → d ≡ s .blocks → e ≡ s .ways → f ≡ s .references → g ≡ s .tables → h ≡ s .possible
+pub row-put : (l : List ℕ) (p : ℕ) (s : Small) → p + 8 ≤ length l → {a d e f g h : ℕ} → a ≡ flags true s → d ≡ s .blocks → e ≡ s .branches → f ≡ s .«function_references» → g ≡ s .«jump_table_references» → h ≡ s .«possible_blocks»
     → set (set (set (set (set (set (set (set l p a) (p + 1) (s .prologue)) (p + 2) (s .epilogue)) (p + 3) d) (p + 4) e) (p + 5) f) (p + 6) g) (p + 7) h ≡ take p l ++ row true s ++ drop (p + 8) l
 row-put l p s room {a} {d} {e} {f} {g} {h} ea ed ee ef eg eh =
     eight l p a (s .prologue) (s .epilogue) d e f g h room

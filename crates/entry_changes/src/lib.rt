@@ -8,7 +8,7 @@ ghost use Rattle.rules.specs.Ordered.{insert-at};
 ghost use Rattle.rules.specs.Blocks.{block};
 ghost use Rattle.rules.specs.Known.{Entry, new-entry};
 ghost use Rattle.rules.specs.OneFunction.{numbers};
-ghost use Rattle.lists.specs.View.{view, Fit};
+ghost use Rattle.function_slices.specs.View.{view, Fit};
 ghost use Rattle.rules.specs.Map as rules;
 ghost use Rattle.known.specs.Table.{known-rows, ENTRIES, KNOWN};
 ghost use Rattle.runs.specs.Runs.{Fits, spliced};
@@ -33,60 +33,68 @@ fn most(room: usize) -> usize
 }
 
 // An entry without an end, put in at i.
-fn insert_known(known: &mut [u64], n: usize, i: usize, k: u64)
-    requires { ⌜ (i ≤ n) × (n < ENTRIES) × (length (now known) ≡ KNOWN) ⌝ }
-    ensures { λ _. ⌜ KnownAre (suc n) (insert-at i (block k 0) (known-rows n (now (known .entry)))) (now (known .exit)) ⌝ }
+fn insert_known(known: &mut [u64], count: usize, i: usize, key: u64)
+    requires { ⌜ (i ≤ count) × (count < ENTRIES) × (length (now known) ≡ KNOWN) ⌝ }
+    ensures { λ _.
+        ⌜ KnownAre (suc count) (insert-at i (block key 0) (known-rows count (now (known .entry))))
+        (now (known .exit)) ⌝ }
 {
     let a: usize = 0;
     let b: usize = known::AT_ENDS;
     let c: usize = known::KNOWN;
-    ordered::insert_at(&mut known[a..b], n, i, k);
-    ordered::insert_at(&mut known[b..c], n, i, 0);
+    ordered::insert_at(&mut known[a..b], count, i, key);
+    ordered::insert_at(&mut known[b..c], count, i, 0);
 }
 
 // A row of which nothing is known, put in at i.
-fn insert_row(infos: &mut [u64], n: usize, i: usize)
-    requires { ⌜ (i ≤ n) × (n < ENTRIES) × (length (now infos) ≡ INFOS) ⌝ }
-    ensures { λ _. ⌜ now (infos .exit) ≡ spliced (now (infos .entry)) (n * 8) (i * 8) (i * 8) (replicate 8 0) ++ drop (i * 8 + 8 + (n * 8 - i * 8)) (now (infos .entry)) ⌝ }
+fn insert_row(infos: &mut [u64], count: usize, i: usize)
+    requires { ⌜ (i ≤ count) × (count < ENTRIES) × (length (now infos) ≡ INFOS) ⌝ }
+    ensures { λ _.
+        ⌜ now (infos .exit) ≡ spliced (now (infos .entry)) (count * 8) (i * 8) (i * 8) (replicate 8 0) ++ drop
+        (i * 8 + 8 + (count * 8 - i * 8)) (now (infos .entry)) ⌝ }
 {
     let p = i * 8;
-    runs::splice_fill(infos, n * 8, p, p, 0, 8);
+    runs::splice_fill(infos, count * 8, p, p, 0, 8);
 }
 
-// An entry at k, if there is none: 4 where there is no room for it.
+// An entry at `key`, if there is none: 4 where there is no room for it.
 pub fn add_entry(
     known: &mut [u64],
     infos: &mut [u64],
     lists: &[u64],
-    n: usize,
+    count: usize,
     room: usize,
-    k: u64,
+    key: u64,
 ) -> Added
-    requires { ⌜ Good n (now known) (now infos) (now lists) ⌝ }
-    ensures { λ r. ⌜ ((es : List Entry) → Holds n (now (known .entry)) (now (infos .entry)) (now (lists .entry)) es → IsAdded (rules.add-entry (capacity room (now (lists .entry))) k es) k (now (known .exit)) (now (infos .exit)) (now (lists .entry)) r) ⌝ }
+    requires { ⌜ Good count (now known) (now infos) (now lists) ⌝ }
+    ensures { λ r.
+        ⌜ ((es : List Entry) →
+        Holds count (now (known .entry)) (now (infos .entry)) (now (lists .entry)) es →
+        IsAdded (rules.add-entry (capacity room (now (lists .entry))) key es) key (now (known .exit))
+        (now (infos .exit)) (now (lists .entry)) r) ⌝ }
 {
     let a: usize = 0;
     let b: usize = known::AT_ENDS;
-    let f = ordered::find(&known[a..b], n, k);
+    let f = ordered::find(&known[a..b], count, key);
     let at = f.at;
     if f.hit {
         return Added {
-            count: n,
+            count,
             at,
             fault: 0,
         };
     }
-    if most(room) <= n {
+    if most(room) <= count {
         return Added {
-            count: n,
+            count,
             at,
             fault: 4,
         };
     }
-    insert_known(known, n, at, k);
-    insert_row(infos, n, at);
+    insert_known(known, count, at, key);
+    insert_row(infos, count, at);
     Added {
-        count: n + 1,
+        count: count + 1,
         at,
         fault: 0,
     }
@@ -99,27 +107,42 @@ pub struct Span {
     pub total: usize,
 }
 
-fn span_of(known: &[u64], infos: &[u64], lists: &[u64], n: usize, i: usize) -> Span
-    requires { ⌜ Good n (now known) (now infos) (now lists) × (i < n) ⌝ }
-    ensures { λ r. ⌜ ((es : List Entry) → Holds n (now (known .entry)) (now (infos .entry)) (now (lists .entry)) es → IsSpan es i r) ⌝ }
+fn span_of(known: &[u64], infos: &[u64], lists: &[u64], count: usize, i: usize) -> Span
+    requires { ⌜ Good count (now known) (now infos) (now lists) × (i < count) ⌝ }
+    ensures { λ r.
+        ⌜ ((es : List Entry) →
+        Holds count (now (known .entry)) (now (infos .entry)) (now (lists .entry)) es →
+        IsSpan es i r) ⌝ }
 {
     let room = lists.len();
     let at = entries::offset(infos, i, room);
     let s = entries::read_row(infos, i * 8);
     let until = at + entries::size(s, room);
-    let total = entries::offset(infos, n, room);
+    let total = entries::offset(infos, count, room);
     Span { at, until, total }
 }
 
 // A function's numbers in the place of those from at up to until, of the first total.
-fn put_numbers(lists: &mut [u64], t: Span, k: &[u64], v: &[u64], s: lists::Small, n: usize)
-    requires { ⌜ Fit (now k) (now v) s × (n ≡ length (numbers (view (now k) (now v) s))) × Fits (now lists) (t .total) (t .at) (t .until) n ⌝ }
-    ensures { λ _. ⌜ now (lists .exit) ≡ spliced (now (lists .entry)) (t .total) (t .at) (t .until) (numbers (view (now (k .entry)) (now (v .entry)) s)) ++ drop (t .at + n + (t .total - t .until)) (now (lists .entry)) ⌝ }
+fn put_numbers(
+    lists: &mut [u64],
+    span: Span,
+    keys: &[u64],
+    values: &[u64],
+    slices: function_slices::Small,
+    count: usize,
+)
+    requires { ⌜ Fit (now keys) (now values) slices ×
+        (count ≡ length (numbers (view (now keys) (now values) slices))) ×
+        Fits (now lists) (span .total) (span .at) (span .until) count ⌝ }
+    ensures { λ _.
+        ⌜ now (lists .exit) ≡ spliced (now (lists .entry)) (span .total) (span .at) (span .until)
+        (numbers (view (now (keys .entry)) (now (values .entry)) slices)) ++ drop
+        (span .at + count + (span .total - span .until)) (now (lists .entry)) ⌝ }
 {
-    let dst = t.at + n;
-    let rest = t.total - t.until;
-    runs::shift(lists, t.until, dst, rest);
-    stored::store(k, v, s, lists, t.at);
+    let dst = span.at + count;
+    let rest = span.total - span.until;
+    runs::shift(lists, span.until, dst, rest);
+    stored::store(keys, values, slices, lists, span.at);
 }
 
 // A flag as a number.
@@ -133,13 +156,13 @@ fn bit(b: bool) -> u64
 }
 
 // The flags of an analyzed function.
-fn pack(s: lists::Small) -> u64
-    ensures { λ r. ⌜ r ≡ flags true s ⌝ }
+fn pack(slices: function_slices::Small) -> u64
+    ensures { λ r. ⌜ r ≡ flags true slices ⌝ }
 {
-    let a = bit(s.finalized);
-    let b = bit(s.load) + 2 * a;
-    let c = bit(s.rfi) + 2 * b;
-    let d = bit(s.conditional) + 2 * c;
+    let a = bit(slices.finalized);
+    let b = bit(slices.load) + 2 * a;
+    let c = bit(slices.rfi) + 2 * b;
+    let d = bit(slices.conditional) + 2 * c;
     1 + 2 * (1 + 2 * d)
 }
 
@@ -151,28 +174,33 @@ fn number(x: usize) -> u64
 }
 
 // The row of an analyzed function, from p on.
-fn put_row(infos: &mut [u64], p: usize, s: lists::Small)
+fn put_row(infos: &mut [u64], p: usize, slices: function_slices::Small)
     requires { ⌜ p + 8 ≤ length (now infos) ⌝ }
-    ensures { λ _. ⌜ now (infos .exit) ≡ take p (now (infos .entry)) ++ row true s ++ drop (p + 8) (now (infos .entry)) ⌝ }
+    ensures { λ _.
+        ⌜ now (infos .exit) ≡ take p (now (infos .entry)) ++ row true slices ++ drop (p + 8) (now (infos .entry)) ⌝ }
 {
-    infos[p] = pack(s);
-    infos[p + 1] = s.prologue;
-    infos[p + 2] = s.epilogue;
-    infos[p + 3] = number(s.blocks);
-    infos[p + 4] = number(s.ways);
-    infos[p + 5] = number(s.references);
-    infos[p + 6] = number(s.tables);
-    infos[p + 7] = number(s.possible);
+    infos[p] = pack(slices);
+    infos[p + 1] = slices.prologue;
+    infos[p + 2] = slices.epilogue;
+    infos[p + 3] = number(slices.blocks);
+    infos[p + 4] = number(slices.branches);
+    infos[p + 5] = number(slices.function_references);
+    infos[p + 6] = number(slices.jump_table_references);
+    infos[p + 7] = number(slices.possible_blocks);
 }
 
 // The end of entry i.
-fn put_end(known: &mut [u64], n: usize, i: usize, end: u64)
-    requires { ⌜ (i < n) × (n ≤ ENTRIES) × (length (now known) ≡ KNOWN) ⌝ }
-    ensures { λ _. ⌜ KnownAre n (set (known-rows n (now (known .entry))) i (block (getD (known-rows n (now (known .entry))) i (block 0 0) .start) end)) (now (known .exit)) ⌝ }
+fn put_end(known: &mut [u64], count: usize, i: usize, end: u64)
+    requires { ⌜ (i < count) × (count ≤ ENTRIES) × (length (now known) ≡ KNOWN) ⌝ }
+    ensures { λ _.
+        ⌜ KnownAre count
+        (set (known-rows count (now (known .entry))) i
+        (block (getD (known-rows count (now (known .entry))) i (block 0 0) .start) end))
+        (now (known .exit)) ⌝ }
 {
     let b: usize = known::AT_ENDS;
     let c: usize = known::KNOWN;
-    ordered::replace_at(&mut known[b..c], n, i, end);
+    ordered::replace_at(&mut known[b..c], count, i, end);
 }
 
 // Entry i analyzed, with its end and lists; 4 where the numbers do not fit.
@@ -180,26 +208,33 @@ fn replace(
     known: &mut [u64],
     infos: &mut [u64],
     lists: &mut [u64],
-    n: usize,
+    count: usize,
     i: usize,
     end: u64,
-    k: &[u64],
-    v: &[u64],
-    s: lists::Small,
+    keys: &[u64],
+    values: &[u64],
+    slices: function_slices::Small,
 ) -> u32
-    requires table { ⌜ Good n (now known) (now infos) (now lists) × (i < n) ⌝ }
-    requires fit { ⌜ Fit (now k) (now v) s ⌝ }
-    ensures { λ r. ⌜ ((es : List Entry) → Holds n (now (known .entry)) (now (infos .entry)) (now (lists .entry)) es → Told (fitted (length (now (lists .entry))) (set es i (analyzed-entry (getD es i (new-entry 0) .entry) end (view (now (k .entry)) (now (v .entry)) s)))) n (now (known .exit)) (now (infos .exit)) (now (lists .exit)) r) ⌝ }
+    requires table { ⌜ Good count (now known) (now infos) (now lists) × (i < count) ⌝ }
+    requires fit { ⌜ Fit (now keys) (now values) slices ⌝ }
+    ensures { λ r.
+        ⌜ ((es : List Entry) →
+        Holds count (now (known .entry)) (now (infos .entry)) (now (lists .entry)) es →
+        Told
+        (fitted (length (now (lists .entry)))
+        (set es i
+        (analyzed-entry (getD es i (new-entry 0) .entry) end (view (now (keys .entry)) (now (values .entry)) slices))))
+        count (now (known .exit)) (now (infos .exit)) (now (lists .exit)) r) ⌝ }
 {
-    let t = span_of(known, infos, lists, n, i);
-    let m = stored::size(k, v, s);
+    let t = span_of(known, infos, lists, count, i);
+    let m = stored::size(keys, values, slices);
     let kept = t.at + (t.total - t.until);
     if lists.len() - kept < m {
         return 4;
     }
-    put_numbers(lists, t, k, v, s, m);
-    put_row(infos, i * 8, s);
-    put_end(known, n, i, end);
+    put_numbers(lists, t, keys, values, slices, m);
+    put_row(infos, i * 8, slices);
+    put_end(known, count, i, end);
     0
 }
 
@@ -208,42 +243,52 @@ pub fn store(
     known: &mut [u64],
     infos: &mut [u64],
     lists: &mut [u64],
-    n: usize,
+    len: usize,
     room: usize,
     key: u64,
     end: u64,
-    k: &[u64],
-    v: &[u64],
-    s: lists::Small,
+    keys: &[u64],
+    values: &[u64],
+    slices: function_slices::Small,
 ) -> Added
-    requires table { ⌜ Good n (now known) (now infos) (now lists) ⌝ }
-    requires fit { ⌜ Fit (now k) (now v) s ⌝ }
-    ensures { λ r. ⌜ ((es : List Entry) → Holds n (now (known .entry)) (now (infos .entry)) (now (lists .entry)) es → Told (rules.store (capacity room (now (lists .entry))) key (view (now (k .entry)) (now (v .entry)) s) end es) (r .count) (now (known .exit)) (now (infos .exit)) (now (lists .exit)) (r .fault)) ⌝ }
+    requires table { ⌜ Good len (now known) (now infos) (now lists) ⌝ }
+    requires fit { ⌜ Fit (now keys) (now values) slices ⌝ }
+    ensures { λ r.
+        ⌜ ((es : List Entry) →
+        Holds len (now (known .entry)) (now (infos .entry)) (now (lists .entry)) es →
+        Told
+        (rules.store (capacity room (now (lists .entry))) key (view (now (keys .entry)) (now (values .entry)) slices)
+        end es)
+        (r .count) (now (known .exit)) (now (infos .exit)) (now (lists .exit)) (r .fault)) ⌝ }
 {
-    let r = add_entry(known, infos, lists, n, room, key);
+    let r = add_entry(known, infos, lists, len, room, key);
     if r.fault == 0 {
         let count = r.count;
         let at = r.at;
-        let fault = replace(known, infos, lists, count, at, end, k, v, s);
+        let fault = replace(known, infos, lists, count, at, end, keys, values, slices);
         return Added { count, at, fault };
     }
     r
 }
 
-// The end of the entry at k, which is added if there is none.
+// The end of the entry at `key`, which is added if there is none.
 pub fn set_end(
     known: &mut [u64],
     infos: &mut [u64],
     lists: &[u64],
-    n: usize,
+    count: usize,
     room: usize,
-    k: u64,
+    key: u64,
     end: u64,
 ) -> Added
-    requires { ⌜ Good n (now known) (now infos) (now lists) ⌝ }
-    ensures { λ r. ⌜ ((es : List Entry) → Holds n (now (known .entry)) (now (infos .entry)) (now (lists .entry)) es → Told (end-set (capacity room (now (lists .entry))) k end es) (r .count) (now (known .exit)) (now (infos .exit)) (now (lists .entry)) (r .fault)) ⌝ }
+    requires { ⌜ Good count (now known) (now infos) (now lists) ⌝ }
+    ensures { λ r.
+        ⌜ ((es : List Entry) →
+        Holds count (now (known .entry)) (now (infos .entry)) (now (lists .entry)) es →
+        Told (end-set (capacity room (now (lists .entry))) key end es) (r .count) (now (known .exit))
+        (now (infos .exit)) (now (lists .entry)) (r .fault)) ⌝ }
 {
-    let r = add_entry(known, infos, lists, n, room, k);
+    let r = add_entry(known, infos, lists, count, room, key);
     if r.fault == 0 {
         put_end(known, r.count, r.at, end);
         return r;
@@ -263,19 +308,23 @@ fn mark(infos: &mut [u64], p: usize)
     infos[p] = f + 1;
 }
 
-// The entry at k, which is added if there is none, is analyzed and has no end: there is no function.
+// The entry at `key`, which is added if there is none, is analyzed and has no end: there is no function.
 pub fn set_aside(
     known: &mut [u64],
     infos: &mut [u64],
     lists: &[u64],
-    n: usize,
+    count: usize,
     room: usize,
-    k: u64,
+    key: u64,
 ) -> Added
-    requires { ⌜ Good n (now known) (now infos) (now lists) ⌝ }
-    ensures { λ r. ⌜ ((es : List Entry) → Holds n (now (known .entry)) (now (infos .entry)) (now (lists .entry)) es → Told (rules.set-aside (capacity room (now (lists .entry))) k es) (r .count) (now (known .exit)) (now (infos .exit)) (now (lists .entry)) (r .fault)) ⌝ }
+    requires { ⌜ Good count (now known) (now infos) (now lists) ⌝ }
+    ensures { λ r.
+        ⌜ ((es : List Entry) →
+        Holds count (now (known .entry)) (now (infos .entry)) (now (lists .entry)) es →
+        Told (rules.set-aside (capacity room (now (lists .entry))) key es) (r .count) (now (known .exit))
+        (now (infos .exit)) (now (lists .entry)) (r .fault)) ⌝ }
 {
-    let r = add_entry(known, infos, lists, n, room, k);
+    let r = add_entry(known, infos, lists, count, room, key);
     if r.fault == 0 {
         mark(infos, r.at * 8);
         put_end(known, r.count, r.at, 0);

@@ -9,12 +9,12 @@ use lib.Seq.{getD-take, getD-drop}
 use borrow.Author.Tests.{le-leb, lt-leb}
 use Rattle.rules.specs.Choice.{if-true, if-false, by-if, ok, fault, limited}
 use Rattle.rules.specs.Step.{insert}
-use Rattle.lists.specs.View.{part, Parts, lists-of, view, Fit}
-use Rattle.lists.specs.declared.Small.{Small}
-use Rattle.lists.proofs.Parts.{Lent, over, lent, part-length, parts-same}
+use Rattle.function_slices.specs.View.{part, Parts, lists-of, view, Fit}
+use Rattle.function_slices.specs.declared.Small.{Small}
+use Rattle.function_slices.proofs.Parts.{Lent, over, lent, part-length, parts-same}
 use Rattle.executor.specs.Pending.{stack, pending, IsPushed, IsPopped}
 use Rattle.executor.proofs.Stack.{length-stack, stack-pop}
-use Rattle.lists.specs.Places.{PENDING, AT-PENDING, KEYS}
+use Rattle.function_slices.specs.Places.{PENDING, AT-PENDING, KEYS}
 
 length-insert : (a : ℕ) (l : List ℕ) → length (insert a l) ≡ suc (length l)
 length-insert a [] = refl

@@ -5,10 +5,10 @@ use Prim.Native.Nat.{ℕ, zero, suc, _≤_}
 use lib.ListN.{length, take, getD}
 use Rattle.rules.specs.Choice.{Answer, ok, fault, limited}
 use Rattle.rules.specs.Step.{insert}
-use Rattle.lists.specs.View.{part}
+use Rattle.function_slices.specs.View.{part}
 use Rattle.executor.specs.declared.Pushed.{Pushed}
 use Rattle.executor.specs.declared.Popped.{Popped}
-use Rattle.lists.specs.Places.{PENDING, AT-PENDING}
+use Rattle.function_slices.specs.Places.{PENDING, AT-PENDING}
 
 -- the first n elements, the last first
 abbrev pub stack : List ℕ → ℕ → List ℕ

@@ -7,8 +7,8 @@ ghost use Rattle.rules.specs.Walk.{with-one};
 ghost use Rattle.rules.specs.Step.{insert};
 ghost use Rattle.executor.specs.Bits.{bit, VISITED};
 ghost use Rattle.executor.specs.Pending.{stack, IsPushed, IsPopped};
-ghost use Rattle.lists.specs.Places.{KEYS};
-use lists::places;
+ghost use Rattle.function_slices.specs.Places.{KEYS};
+use function_slices::places;
 
 // A bit for each of 65,536 code words.
 pub const VISITED: usize = 2048;
@@ -43,12 +43,14 @@ pub fn visit(v: &mut [u32; VISITED], i: usize)
     v[k] = v[k] | (1u32 << (i % 32) as u32);
 }
 
-// Puts addr among the first n elements, which ascend; behind its equals.
-fn insert(p: &mut [u64], n: usize, addr: u64)
-    requires { ⌜ n < length (now p) ⌝ }
-    ensures { λ _. ⌜ (stack (now (p .exit)) (n + 1) ≡ insert addr (stack (now (p .entry)) n)) × (length (now (p .exit)) ≡ length (now (p .entry))) ⌝ }
+// Puts addr among the first `count` elements, which ascend; behind its equals.
+fn insert(p: &mut [u64], count: usize, addr: u64)
+    requires { ⌜ count < length (now p) ⌝ }
+    ensures { λ _.
+        ⌜ (stack (now (p .exit)) (count + 1) ≡ insert addr (stack (now (p .entry)) count)) ×
+        (length (now (p .exit)) ≡ length (now (p .entry))) ⌝ }
 {
-    let mut k = n;
+    let mut k = count;
     while 0 < k && addr < p[k - 1] {
         p[k] = p[k - 1];
         k -= 1;
@@ -62,19 +64,19 @@ pub struct Pushed {
     pub fault: u32,
 }
 
-// Puts addr among the n pending addresses.
-pub fn push(k: &mut [u64], n: usize, addr: u64) -> Pushed
-    requires { ⌜ (length (now k) ≡ KEYS) × (n ≤ 256) ⌝ }
-    ensures { λ r. ⌜ IsPushed addr n (now (k .entry)) (now (k .exit)) r ⌝ }
+// Puts addr among the `count` pending addresses.
+pub fn push(keys: &mut [u64], count: usize, addr: u64) -> Pushed
+    requires { ⌜ (length (now keys) ≡ KEYS) × (count ≤ 256) ⌝ }
+    ensures { λ r. ⌜ IsPushed addr count (now (keys .entry)) (now (keys .exit)) r ⌝ }
 {
-    if n == places::PENDING {
-        return Pushed { count: n, fault: 4 };
+    if count == places::PENDING {
+        return Pushed { count, fault: 4 };
     }
     let a: usize = places::AT_PENDING;
     let b: usize = places::KEYS;
-    insert(&mut k[a..b], n, addr);
+    insert(&mut keys[a..b], count, addr);
     Pushed {
-        count: n + 1,
+        count: count + 1,
         fault: 0,
     }
 }
@@ -85,14 +87,14 @@ pub struct Popped {
     pub count: usize,
 }
 
-// Takes the highest of the n pending addresses.
-pub fn pop(k: &[u64], n: usize) -> Popped
-    requires { ⌜ (length (now k) ≡ KEYS) × ((0 < n) × (n ≤ 256)) ⌝ }
-    ensures { λ r. ⌜ IsPopped n (now (k .entry)) r ⌝ }
+// Takes the highest of the `count` pending addresses.
+pub fn pop(keys: &[u64], count: usize) -> Popped
+    requires { ⌜ (length (now keys) ≡ KEYS) × ((0 < count) × (count ≤ 256)) ⌝ }
+    ensures { λ r. ⌜ IsPopped count (now (keys .entry)) r ⌝ }
 {
-    let left = n - 1;
+    let left = count - 1;
     Popped {
-        addr: k[places::AT_PENDING + left],
+        addr: keys[places::AT_PENDING + left],
         count: left,
     }
 }

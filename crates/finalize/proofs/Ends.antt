@@ -26,15 +26,15 @@ use Rattle.obj.specs.Lent.{Lent, given, image}
 use Rattle.obj.specs.Sections.{IsCode}
 use Rattle.obj.specs.declared.sections.Code.{Code}
 use Rattle.known.specs.Table.{Knows}
-use Rattle.lists.specs.View as lists
-use Rattle.lists.specs.View.{view, part, Fit}
-use Rattle.lists.specs.Groups.{ways-rows}
-use Rattle.lists.specs.declared.Small.{Small}
+use Rattle.function_slices.specs.View as lists
+use Rattle.function_slices.specs.View.{view, part, Fit}
+use Rattle.function_slices.specs.Groups.{branches-rows}
+use Rattle.function_slices.specs.declared.Small.{Small}
 use Rattle.walk.specs.State.{faulting, Listed}
 use Rattle.walk.proofs.Answers.{listed, listed-ok, listed-fault, refit}
 use Rattle.prologues.proofs.Notes.{stops, goes}
 use Rattle.finalize.specs.Checked.{Checked}
-use Rattle.lists.specs.Places.{BRANCHES, AT-BRANCHES}
+use Rattle.function_slices.specs.Places.{BRANCHES, AT-BRANCHES}
 
 -- ---- the two words
 
@@ -98,13 +98,13 @@ module _ (sec b : List ℕ) (c : Code) (k v : List ℕ) (s : Small) (end : ℕ) 
     unfolding rules.ends-in-call
     no-call n l e ch q = rw (ne-eqb _ _ (λ z. n (sym (opcode-is l ch q) ∙ z))) refl
 
-    pub calls : (a to t : ℕ) (r : Bool) → o ≡ 18 → a ≡ address-of end - 4 → to ≡ branch-dest (w % 0x1_0000_0000) a → ((l : Lent) → l .sections ≡ sec → t ≡ locate (image l) to) → r ≡ has self t (view k v s .references) → EndsInCall r
+    pub calls : (a to t : ℕ) (r : Bool) → o ≡ 18 → a ≡ address-of end - 4 → to ≡ branch-dest (w % 0x1_0000_0000) a → ((l : Lent) → l .sections ≡ sec → t ≡ locate (image l) to) → r ≡ has self t (view k v s .function-references) → EndsInCall r
     unfolding rules.ends-in-call
     calls a to t r h is-a is-to is-t is-r l e ch q =
         let d : to ≡ branch-dest (rules.last-word (image l) (view k v s)) (address-of (last-end (view k v s .blocks)) - 4) =
         is-to ∙ low-dest w a ∙ ap (λ (x : ℕ). branch-dest x a) (is-w l ch (view k v s) q) ∙ ap (λ (x : ℕ). branch-dest (rules.last-word (image l) (view k v s)) x) (is-a ∙ ap (λ (x : ℕ). address-of x - 4) q)
         in
-        rw (eq-eqb _ _ (opcode-is l ch q ∙ h)) (is-r ∙ ap (λ (x : ℕ). has self x (view k v s .references)) (is-t l e ∙ ap (λ (x : ℕ). locate (image l) x) d))
+        rw (eq-eqb _ _ (opcode-is l ch q ∙ h)) (is-r ∙ ap (λ (x : ℕ). has self x (view k v s .function-references)) (is-t l e ∙ ap (λ (x : ℕ). locate (image l) x) d))
 
   -- ---- a conditional end
 
@@ -119,11 +119,11 @@ module _ (sec b : List ℕ) (c : Code) (k v : List ℕ) (s : Small) (end : ℕ) 
         let z : view k v s .conditional-blr ≡ false = unfold view in plain in
         or-and-false _ _ _ z (sym (is-b l e ch q) ∙ h)
 
-    pub two-ways : (key : ℕ) (r : Bool) → b₁ ≡ true → key ≡ last-start (view k v s .blocks) → ((im : Image) → r ≡ any (rules.branches-to im key) (ways-rows (s .ways) (part AT-BRANCHES BRANCHES k) (part AT-BRANCHES BRANCHES v))) → IsConditional r
+    pub two-branches : (key : ℕ) (r : Bool) → b₁ ≡ true → key ≡ last-start (view k v s .blocks) → ((im : Image) → r ≡ any (rules.branches-to im key) (branches-rows (s .branches) (part AT-BRANCHES BRANCHES k) (part AT-BRANCHES BRANCHES v))) → IsConditional r
     unfolding rules.is-conditional
-    two-ways key r h is-key is-r l e ch q =
+    two-branches key r h is-key is-r l e ch q =
         let z : view k v s .conditional-blr ≡ false = unfold view in plain in
-        let y : r ≡ any (rules.branches-to (image l) (last-start (view k v s .blocks))) (view k v s .ways) = rw (← is-key) (unfold view in is-r (image l)) in
+        let y : r ≡ any (rules.branches-to (image l) (last-start (view k v s .blocks))) (view k v s .branches) = rw (← is-key) (unfold view in is-r (image l)) in
         or-and-true _ _ _ r z (sym (is-b l e ch q) ∙ h) y
 
 -- ---- a word behind the end
@@ -171,11 +171,11 @@ code-word im s h = by (contains (code-section im) (address-of (last-end (s .bloc
 -- the lists with another flag
 abbrev pub with-conditional : Small → Bool → Small
 with-conditional s x =
-    record { blocks = s .blocks; ways = s .ways; references = s .references; tables = s .tables; possible = s .possible; prologue = s .prologue; epilogue = s .epilogue; conditional = x; rfi = s .rfi; load = s .load; finalized = s .finalized; fault = s .fault }
+    record { blocks = s .blocks; branches = s .branches; «function_references» = s .«function_references»; «jump_table_references» = s .«jump_table_references»; «possible_blocks» = s .«possible_blocks»; prologue = s .prologue; epilogue = s .epilogue; conditional = x; rfi = s .rfi; load = s .load; finalized = s .finalized; fault = s .fault }
 
 abbrev pub with-finished : Small → Small
 with-finished s =
-    record { blocks = s .blocks; ways = s .ways; references = s .references; tables = s .tables; possible = s .possible; prologue = s .prologue; epilogue = s .epilogue; conditional = s .conditional; rfi = s .rfi; load = s .load; finalized = true; fault = s .fault }
+    record { blocks = s .blocks; branches = s .branches; «function_references» = s .«function_references»; «jump_table_references» = s .«jump_table_references»; «possible_blocks» = s .«possible_blocks»; prologue = s .prologue; epilogue = s .epilogue; conditional = s .conditional; rfi = s .rfi; load = s .load; finalized = true; fault = s .fault }
 
 module _ (b known : List ℕ) (c : Code) (n : ℕ) (k v : List ℕ) (s : Small) (end : ℕ) where
   abbrev pub AddsLast : List ℕ → List ℕ → Small → Type 0

@@ -12,11 +12,11 @@ use lib.Seq.{drop-cons, getD-take, length-take-le}
 use borrow.Author.Tests.{lt-ltb, le-ltb}
 use Rattle.rules.specs.Choice.{if, if-true, if-false, by-if, any}
 use Rattle.rules.specs.Image.{Image}
-use Rattle.rules.specs.Slices.{Ways}
+use Rattle.rules.specs.Slices.{Branches}
 use Rattle.rules.specs.Finalize as rules
 use Rattle.ordered.specs.Columns.{join}
-use Rattle.lists.specs.Groups.{Pair, pair, ways-of, add-way, grouped, ways-rows}
-use Rattle.finalize.specs.Ways.{same-source}
+use Rattle.function_slices.specs.Groups.{Pair, pair, branches-of, add-way, grouped, branches-rows}
+use Rattle.finalize.specs.Branches.{same-source}
 
 -- from the pairs, where it is told of the first whether the pair before is from its word
 unfoldable pub shares : ℕ → Bool → List ℕ → List ℕ → Bool
@@ -26,15 +26,15 @@ shares key b (f ∷ fs) (t ∷ ts) = if (eqb key t && (b || same-source f fs)) t
 
 module _ (im : Image) (key : ℕ) where
   -- from the rows, where it is told of the first whether its word has another way on before
-  shared : Bool → List Ways → Bool
+  shared : Bool → List Branches → Bool
   shared b [] = false
   shared b (w ∷ ws) = if ((b || ltb 1 (length (w .targets))) && any (eqb key) (w .targets)) true (any (rules.branches-to im key) ws)
 
   -- rows of which the first is from k
-  data Headed : ℕ → List Ways → Type 0 where
-    headed : {k t : ℕ} {ts : List ℕ} {r : List Ways} → Headed k (ways-of k (t ∷ ts) ∷ r)
+  data Headed : ℕ → List Branches → Type 0 where
+    headed : {k t : ℕ} {ts : List ℕ} {r : List Branches} → Headed k (branches-of k (t ∷ ts) ∷ r)
 
-  add-headed : (p : Pair) (g : List Ways) → Headed (p .source) (add-way p g)
+  add-headed : (p : Pair) (g : List Branches) → Headed (p .source) (add-way p g)
   add-headed p [] = headed
   add-headed p (w ∷ g) = by-if (Headed (p .source)) (eqb (p .source) (w .from)) (λ _. headed) (λ _. headed)
 
@@ -53,13 +53,13 @@ module _ (im : Image) (key : ℕ) where
   one false c true z h = rw h refl
   one false c false z h = rw h refl
 
-  turn : (b : Bool) (p : Pair) (q : ℕ) {l : List Ways} → Headed q l → shared b (add-way p l) ≡ if (eqb key (p .target) && (b || eqb (p .source) q)) true (shared (eqb (p .source) q) l)
+  turn : (b : Bool) (p : Pair) (q : ℕ) {l : List Branches} → Headed q l → shared b (add-way p l) ≡ if (eqb key (p .target) && (b || eqb (p .source) q)) true (shared (eqb (p .source) q) l)
   unfolding shared
   turn b p q (headed {t} {ts} {r}) = go (eqb (p .source) q)
     where
-      go : (e : Bool) → shared b (if e (ways-of (p .source) (p .target ∷ t ∷ ts) ∷ r) (ways-of (p .source) (p .target ∷ []) ∷ ways-of q (t ∷ ts) ∷ r)) ≡ if (eqb key (p .target) && (b || e)) true (shared e (ways-of q (t ∷ ts) ∷ r))
+      go : (e : Bool) → shared b (if e (branches-of (p .source) (p .target ∷ t ∷ ts) ∷ r) (branches-of (p .source) (p .target ∷ []) ∷ branches-of q (t ∷ ts) ∷ r)) ≡ if (eqb key (p .target) && (b || e)) true (shared e (branches-of q (t ∷ ts) ∷ r))
       go true = unfold shared if in two b _ (eqb key (p .target)) (any (eqb key) (t ∷ ts)) (any (rules.branches-to im key) r) (lt-ltb 1 (suc (suc (length ts))) (omega arith))
-      go false = unfold shared if in one b (ltb 1 1) (eqb key (p .target)) (any (rules.branches-to im key) (ways-of q (t ∷ ts) ∷ r)) (le-ltb 1 1 (omega arith))
+      go false = unfold shared if in one b (ltb 1 1) (eqb key (p .target)) (any (rules.branches-to im key) (branches-of q (t ∷ ts) ∷ r)) (le-ltb 1 1 (omega arith))
 
   shares-is : (b : Bool) (fs ts : List ℕ) → length fs ≡ length ts → shares key b fs ts ≡ shared b (grouped (join pair fs ts))
   unfolding shares shared
@@ -72,7 +72,7 @@ module _ (im : Image) (key : ℕ) where
       ap (λ (x : Bool). if (eqb key t && (b || eqb f g)) true x) (shares-is (eqb f g) (g ∷ fs) (u ∷ ts) (suc-inj h)) ∙
       sym (turn b (pair f t) g (add-headed (pair g u) (grouped (join pair fs ts))))
 
-  none-before : (l : List Ways) → shared false l ≡ any (rules.branches-to im key) l
+  none-before : (l : List Branches) → shared false l ≡ any (rules.branches-to im key) l
   unfolding shared
   none-before [] = refl
   none-before (w ∷ l) = refl
@@ -103,11 +103,11 @@ module _ (fs ts : List ℕ) (n key : ℕ) (rf : n ≤ length fs) (rt : n ≤ len
   pub share-first : Sharing fs ts n key 0 false
   share-first = record { inside = omega arith; same = refl }
 
-  whole : (im : Image) → shares key false (take n fs) (take n ts) ≡ any (rules.branches-to im key) (ways-rows n fs ts)
+  whole : (im : Image) → shares key false (take n fs) (take n ts) ≡ any (rules.branches-to im key) (branches-rows n fs ts)
   whole im = shares-any im key (take n fs) (take n ts) (length-take-le n fs rf ∙ sym (length-take-le n ts rt))
 
   module _ (i : ℕ) (b : Bool) (s : Sharing fs ts n key i b) where
-    pub share-none : n ≤ i → (im : Image) → false ≡ any (rules.branches-to im key) (ways-rows n fs ts)
+    pub share-none : n ≤ i → (im : Image) → false ≡ any (rules.branches-to im key) (branches-rows n fs ts)
     unfolding shares
     share-none h im =
         ap (λ (l : List ℕ). shares key b l (drop i (take n ts))) (sym (no-next n i fs rf h)) ∙ s .same ∙ whole im
@@ -117,7 +117,7 @@ module _ (fs ts : List ℕ) (n key : ℕ) (rf : n ≤ length fs) (rt : n ≤ len
       unfolding shares
       step = rw (next-in n i fs rf h, next-in n i ts rt h, is-next) refl
 
-      pub share-found : (r : Bool) → r ≡ (eqb key (getD ts i 0) && (b || next)) → r ≡ true → (im : Image) → true ≡ any (rules.branches-to im key) (ways-rows n fs ts)
+      pub share-found : (r : Bool) → r ≡ (eqb key (getD ts i 0) && (b || next)) → r ≡ true → (im : Image) → true ≡ any (rules.branches-to im key) (branches-rows n fs ts)
       share-found r e t im = sym (step ∙ if-true (sym e ∙ t) _ _) ∙ s .same ∙ whole im
 
       pub share-on : (r : Bool) → r ≡ (eqb key (getD ts i 0) && (b || next)) → r ≡ false → Sharing fs ts n key (i + 1) next

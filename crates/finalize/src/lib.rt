@@ -15,19 +15,19 @@ ghost use Rattle.rules.specs.Finalize as rules;
 ghost use Rattle.obj.specs.Lent.{Lent, image};
 ghost use Rattle.obj.specs.Sections.{Few, InBytes};
 ghost use Rattle.known.specs.Table.{Kept, Knows};
-ghost use Rattle.lists.specs.View.{view, Fit};
-ghost use Rattle.lists.specs.Groups.{ways-rows};
+ghost use Rattle.function_slices.specs.View.{view, Fit};
+ghost use Rattle.function_slices.specs.Groups.{branches-rows};
 ghost use Rattle.walk.specs.State.{faulting, Listed};
 ghost use Rattle.finalize.specs.Checked.{Checked};
-ghost use Rattle.finalize.specs.Ways.{same-source};
-ghost use Rattle.lists.specs.Places.{AT-PENDING};
-use lists::places;
+ghost use Rattle.finalize.specs.Branches.{same-source};
+ghost use Rattle.function_slices.specs.Places.{AT-PENDING};
+use function_slices::places;
 
-fn with_fault(s: lists::Small, n: u32) -> lists::Small
-    ensures { λ r. ⌜ r ≡ faulting s n ⌝ }
+fn with_fault(slices: function_slices::Small, number: u32) -> function_slices::Small
+    ensures { λ r. ⌜ r ≡ faulting slices number ⌝ }
 {
-    let mut r = s;
-    r.fault = n;
+    let mut r = slices;
+    r.fault = number;
     r
 }
 
@@ -45,7 +45,12 @@ fn before_end(end: u64) -> u32
 // The function's last word; 2^32, which is no word, outside code.
 fn last_word(bytes: &[u8], code: obj::sections::Code, end: u64) -> u64
     requires { ⌜ InBytes (now bytes) code ⌝ }
-    ensures { λ r. ⌜ ((l : Lent) → Checked (now (bytes .entry)) code l → (s : Slices) → end ≡ last-end (s .blocks) → r ≡ rules.last-word (image l) s) ⌝ }
+    ensures { λ r.
+        ⌜ ((l : Lent) →
+        Checked (now (bytes .entry)) code l →
+        (s : Slices) →
+        end ≡ last-end (s .blocks) →
+        r ≡ rules.last-word (image l) s) ⌝ }
 {
     obj::sections::word(bytes, code, before_end(end))
 }
@@ -53,7 +58,12 @@ fn last_word(bytes: &[u8], code: obj::sections::Code, end: u64) -> u64
 // The word behind its end.
 fn word_after(bytes: &[u8], code: obj::sections::Code, end: u64) -> u64
     requires { ⌜ InBytes (now bytes) code ⌝ }
-    ensures { λ r. ⌜ ((l : Lent) → Checked (now (bytes .entry)) code l → (s : Slices) → end ≡ last-end (s .blocks) → r ≡ rules.word-after (image l) s) ⌝ }
+    ensures { λ r.
+        ⌜ ((l : Lent) →
+        Checked (now (bytes .entry)) code l →
+        (s : Slices) →
+        end ≡ last-end (s .blocks) →
+        r ≡ rules.word-after (image l) s) ⌝ }
 {
     obj::sections::word(bytes, code, (end % 0x1_0000_0000) as u32)
 }
@@ -62,31 +72,41 @@ fn word_after(bytes: &[u8], code: obj::sections::Code, end: u64) -> u64
 fn ends_in_call(
     sections: &[u32],
     bytes: &[u8],
-    k: &[u64],
-    v: &[u64],
+    keys: &[u64],
+    values: &[u64],
     code: obj::sections::Code,
-    s: lists::Small,
+    slices: function_slices::Small,
     end: u64,
 ) -> bool
     requires lent { ⌜ Few (now sections) × InBytes (now bytes) code ⌝ }
-    requires fit { ⌜ Fit (now k) (now v) s ⌝ }
-    ensures { λ r. ⌜ ((l : Lent) → l .sections ≡ now (sections .entry) → Checked (now (bytes .entry)) code l → end ≡ last-end (view (now (k .entry)) (now (v .entry)) s .blocks) → r ≡ rules.ends-in-call (image l) (view (now (k .entry)) (now (v .entry)) s)) ⌝ }
+    requires fit { ⌜ Fit (now keys) (now values) slices ⌝ }
+    ensures { λ r.
+        ⌜ ((l : Lent) →
+        l .sections ≡ now (sections .entry) →
+        Checked (now (bytes .entry)) code l →
+        end ≡ last-end (view (now (keys .entry)) (now (values .entry)) slices .blocks) →
+        r ≡ rules.ends-in-call (image l) (view (now (keys .entry)) (now (values .entry)) slices)) ⌝ }
 {
     let w = last_word(bytes, code, end);
     let x = (w % 0x1_0000_0000) as u32;
     if ppc::fields::opcode(x) == 18 {
         let to = ppc::branches::branch_dest(x, before_end(end));
-        return lists::is_reference(k, v, s, obj::sections::locate(sections, to));
+        return function_slices::is_function_reference(
+            keys,
+            values,
+            slices,
+            obj::sections::locate(sections, to),
+        );
     }
     false
 }
 
 // Whether the pair behind the one at an index is from the same word.
-fn next_same(fs: &[u64], n: usize, i: usize) -> bool
-    requires { ⌜ (n ≤ length (now fs)) × (i < n) ⌝ }
-    ensures { λ r. ⌜ r ≡ same-source (getD (now (fs .entry)) i 0) (drop (i + 1) (take n (now (fs .entry)))) ⌝ }
+fn next_same(fs: &[u64], count: usize, i: usize) -> bool
+    requires { ⌜ (count ≤ length (now fs)) × (i < count) ⌝ }
+    ensures { λ r. ⌜ r ≡ same-source (getD (now (fs .entry)) i 0) (drop (i + 1) (take count (now (fs .entry)))) ⌝ }
 {
-    if n <= i + 1 {
+    if count <= i + 1 {
         return false;
     }
     fs[i] == fs[i + 1]
@@ -99,15 +119,17 @@ fn is_shared(to: u64, key: u64, before: bool, behind: bool) -> bool
     (key == to) & (before | behind)
 }
 
-// Whether a word of n pairs has two ways on, one of them to key. A word's pairs stand together.
-fn branches_to(fs: &[u64], ts: &[u64], n: usize, key: u64) -> bool
-    requires { ⌜ (n ≤ length (now fs)) × (n ≤ length (now ts)) ⌝ }
-    ensures { λ r. ⌜ ((im : Image) → r ≡ any (rules.branches-to im key) (ways-rows n (now (fs .entry)) (now (ts .entry)))) ⌝ }
+// Whether a word of `count` pairs has two ways on, one of them to key. A word's pairs stand together.
+fn branches_to(fs: &[u64], ts: &[u64], count: usize, key: u64) -> bool
+    requires { ⌜ (count ≤ length (now fs)) × (count ≤ length (now ts)) ⌝ }
+    ensures { λ r.
+        ⌜ ((im : Image) →
+        r ≡ any (rules.branches-to im key) (branches-rows count (now (fs .entry)) (now (ts .entry)))) ⌝ }
 {
     let mut i: usize = 0;
     let mut same = false;
-    while i < n {
-        let next = next_same(fs, n, i);
+    while i < count {
+        let next = next_same(fs, count, i);
         if is_shared(ts[i], key, same, next) {
             return true;
         }
@@ -121,79 +143,116 @@ fn branches_to(fs: &[u64], ts: &[u64], n: usize, key: u64) -> bool
 fn is_conditional(
     sections: &[u32],
     bytes: &[u8],
-    k: &[u64],
-    v: &[u64],
+    keys: &[u64],
+    values: &[u64],
     code: obj::sections::Code,
-    s: lists::Small,
+    slices: function_slices::Small,
     end: u64,
 ) -> bool
     requires lent { ⌜ Few (now sections) × InBytes (now bytes) code ⌝ }
-    requires fit { ⌜ Fit (now k) (now v) s ⌝ }
-    ensures { λ r. ⌜ ((l : Lent) → l .sections ≡ now (sections .entry) → Checked (now (bytes .entry)) code l → end ≡ last-end (view (now (k .entry)) (now (v .entry)) s .blocks) → r ≡ rules.is-conditional (image l) (view (now (k .entry)) (now (v .entry)) s)) ⌝ }
+    requires fit { ⌜ Fit (now keys) (now values) slices ⌝ }
+    ensures { λ r.
+        ⌜ ((l : Lent) →
+        l .sections ≡ now (sections .entry) →
+        Checked (now (bytes .entry)) code l →
+        end ≡ last-end (view (now (keys .entry)) (now (values .entry)) slices .blocks) →
+        r ≡ rules.is-conditional (image l) (view (now (keys .entry)) (now (values .entry)) slices)) ⌝ }
 {
-    if s.conditional {
+    if slices.conditional {
         return true;
     }
-    if ends_in_call(sections, bytes, k, v, code, s, end) {
-        let key = lists::last_start(k, v, s);
+    if ends_in_call(sections, bytes, keys, values, code, slices, end) {
+        let key = function_slices::last_start(keys, values, slices);
         let a: usize = places::AT_BRANCHES;
         let b: usize = places::AT_REFERENCES;
-        return branches_to(&k[a..b], &v[a..b], s.ways, key);
+        return branches_to(&keys[a..b], &values[a..b], slices.branches, key);
     }
     false
 }
 
 // Whether a `blr` stands behind a conditional end, or a `nop` behind an `rfi`.
-fn has_last(bytes: &[u8], code: obj::sections::Code, s: lists::Small, end: u64) -> bool
+fn has_last(
+    bytes: &[u8],
+    code: obj::sections::Code,
+    slices: function_slices::Small,
+    end: u64,
+) -> bool
     requires { ⌜ InBytes (now bytes) code ⌝ }
-    ensures { λ r. ⌜ ((l : Lent) → Checked (now (bytes .entry)) code l → (k v : List ℕ) → end ≡ last-end (view k v s .blocks) → r ≡ rules.has-last (image l) (view k v s)) ⌝ }
+    ensures { λ r.
+        ⌜ ((l : Lent) →
+        Checked (now (bytes .entry)) code l →
+        (k v : List ℕ) →
+        end ≡ last-end (view k v slices .blocks) →
+        r ≡ rules.has-last (image l) (view k v slices)) ⌝ }
 {
     let last = last_word(bytes, code, end);
     let after = word_after(bytes, code, end);
-    (s.conditional & (last != 0x4E80_0020) & (after == 0x4E80_0020))
-        | (s.rfi & (after == 0x6000_0000))
+    (slices.conditional & (last != 0x4E80_0020) & (after == 0x4E80_0020))
+        | (slices.rfi & (after == 0x6000_0000))
 }
 
 // The word behind the end becomes a block, unless it is an entry. It is a code word, so that four more does not wrap.
 fn add_last(
     bytes: &[u8],
     known: &[u64],
-    k: &mut [u64; places::KEYS],
-    v: &mut [u64; places::VALUES],
+    keys: &mut [u64; places::KEYS],
+    values: &mut [u64; places::VALUES],
     code: obj::sections::Code,
-    n: usize,
-    s: lists::Small,
+    count: usize,
+    slices: function_slices::Small,
     end: u64,
-) -> lists::Small
-    requires lent { ⌜ InBytes (now bytes) code × Kept n (now known) ⌝ }
-    requires fit { ⌜ Fit (now k) (now v) s × (s .fault ≡ 0) ⌝ }
-    ensures { λ r. ⌜ (drop AT-PENDING (now (k .exit)) ≡ drop AT-PENDING (now (k .entry))) × ((l : Lent) → Checked (now (bytes .entry)) code l → (es : List Entry) → Knows n (now (known .entry)) es → end ≡ last-end (view (now (k .entry)) (now (v .entry)) s .blocks) → Listed (rules.add-last (image l) es (view (now (k .entry)) (now (v .entry)) s)) (now (k .exit)) (now (v .exit)) r) ⌝ }
+) -> function_slices::Small
+    requires lent { ⌜ InBytes (now bytes) code × Kept count (now known) ⌝ }
+    requires fit { ⌜ Fit (now keys) (now values) slices × (slices .fault ≡ 0) ⌝ }
+    ensures { λ r.
+        ⌜ (drop AT-PENDING (now (keys .exit)) ≡ drop AT-PENDING (now (keys .entry))) ×
+        ((l : Lent) →
+        Checked (now (bytes .entry)) code l →
+        (es : List Entry) →
+        Knows count (now (known .entry)) es →
+        end ≡ last-end (view (now (keys .entry)) (now (values .entry)) slices .blocks) →
+        Listed (rules.add-last (image l) es (view (now (keys .entry)) (now (values .entry)) slices)) (now (keys .exit))
+        (now (values .exit)) r) ⌝ }
 {
-    if has_last(bytes, code, s, end) {
-        if known::has_entry(known, n, end) {
-            return s;
+    if has_last(bytes, code, slices, end) {
+        if known::has_entry(known, count, end) {
+            return slices;
         }
-        return lists::set_block(k, v, s, end, std::num::wrapping_add_u64(end, 4));
+        return function_slices::set_block(
+            keys,
+            values,
+            slices,
+            end,
+            std::num::wrapping_add_u64(end, 4),
+        );
     }
-    s
+    slices
 }
 
 // The last word is added, and the function is finalized.
 fn finalize_end(
     bytes: &[u8],
     known: &[u64],
-    k: &mut [u64; places::KEYS],
-    v: &mut [u64; places::VALUES],
+    keys: &mut [u64; places::KEYS],
+    values: &mut [u64; places::VALUES],
     code: obj::sections::Code,
-    n: usize,
-    s: lists::Small,
+    count: usize,
+    slices: function_slices::Small,
     end: u64,
-) -> lists::Small
-    requires lent { ⌜ InBytes (now bytes) code × Kept n (now known) ⌝ }
-    requires fit { ⌜ Fit (now k) (now v) s × (s .fault ≡ 0) ⌝ }
-    ensures { λ r. ⌜ (drop AT-PENDING (now (k .exit)) ≡ drop AT-PENDING (now (k .entry))) × ((l : Lent) → Checked (now (bytes .entry)) code l → (es : List Entry) → Knows n (now (known .entry)) es → end ≡ last-end (view (now (k .entry)) (now (v .entry)) s .blocks) → Listed (rules.finalize-end (image l) es (view (now (k .entry)) (now (v .entry)) s)) (now (k .exit)) (now (v .exit)) r) ⌝ }
+) -> function_slices::Small
+    requires lent { ⌜ InBytes (now bytes) code × Kept count (now known) ⌝ }
+    requires fit { ⌜ Fit (now keys) (now values) slices × (slices .fault ≡ 0) ⌝ }
+    ensures { λ r.
+        ⌜ (drop AT-PENDING (now (keys .exit)) ≡ drop AT-PENDING (now (keys .entry))) ×
+        ((l : Lent) →
+        Checked (now (bytes .entry)) code l →
+        (es : List Entry) →
+        Knows count (now (known .entry)) es →
+        end ≡ last-end (view (now (keys .entry)) (now (values .entry)) slices .blocks) →
+        Listed (rules.finalize-end (image l) es (view (now (keys .entry)) (now (values .entry)) slices))
+        (now (keys .exit)) (now (values .exit)) r) ⌝ }
 {
-    let r = add_last(bytes, known, k, v, code, n, s, end);
+    let r = add_last(bytes, known, keys, values, code, count, slices, end);
     if r.fault != 0 {
         return r;
     }
@@ -207,31 +266,39 @@ fn finalize_closed(
     sections: &[u32],
     bytes: &[u8],
     known: &[u64],
-    k: &mut [u64; places::KEYS],
-    v: &mut [u64; places::VALUES],
+    keys: &mut [u64; places::KEYS],
+    values: &mut [u64; places::VALUES],
     code: obj::sections::Code,
-    n: usize,
-    s: lists::Small,
-) -> lists::Small
-    requires lent { ⌜ Few (now sections) × InBytes (now bytes) code × Kept n (now known) ⌝ }
-    requires fit { ⌜ Fit (now k) (now v) s × (s .fault ≡ 0) ⌝ }
-    ensures { λ r. ⌜ (drop AT-PENDING (now (k .exit)) ≡ drop AT-PENDING (now (k .entry))) × ((l : Lent) → l .sections ≡ now (sections .entry) → Checked (now (bytes .entry)) code l → (es : List Entry) → Knows n (now (known .entry)) es → Listed (rules.finalize-closed (image l) es (view (now (k .entry)) (now (v .entry)) s)) (now (k .exit)) (now (v .exit)) r) ⌝ }
+    count: usize,
+    slices: function_slices::Small,
+) -> function_slices::Small
+    requires lent { ⌜ Few (now sections) × InBytes (now bytes) code × Kept count (now known) ⌝ }
+    requires fit { ⌜ Fit (now keys) (now values) slices × (slices .fault ≡ 0) ⌝ }
+    ensures { λ r.
+        ⌜ (drop AT-PENDING (now (keys .exit)) ≡ drop AT-PENDING (now (keys .entry))) ×
+        ((l : Lent) →
+        l .sections ≡ now (sections .entry) →
+        Checked (now (bytes .entry)) code l →
+        (es : List Entry) →
+        Knows count (now (known .entry)) es →
+        Listed (rules.finalize-closed (image l) es (view (now (keys .entry)) (now (values .entry)) slices))
+        (now (keys .exit)) (now (values .exit)) r) ⌝ }
 {
-    let end = lists::last_end(k, v, s);
+    let end = function_slices::last_end(keys, values, slices);
     if end == 0 {
-        return with_fault(s, 13);
+        return with_fault(slices, 13);
     }
-    let conditional = is_conditional(sections, bytes, k, v, code, s, end);
-    let mut t = s;
+    let conditional = is_conditional(sections, bytes, keys, values, code, slices, end);
+    let mut t = slices;
     t.conditional = conditional;
-    finalize_end(bytes, known, k, v, code, n, t, end)
+    finalize_end(bytes, known, keys, values, code, count, t, end)
 }
 
 // An epilogue without a prologue, and no load of r1.
-fn lacks_prologue(s: lists::Small) -> bool
-    ensures { λ r. ⌜ r ≡ (eqb (s .prologue) 0 && not (eqb (s .epilogue) 0) && not (s .load)) ⌝ }
+fn lacks_prologue(slices: function_slices::Small) -> bool
+    ensures { λ r. ⌜ r ≡ (eqb (slices .prologue) 0 && not (eqb (slices .epilogue) 0) && not (slices .load)) ⌝ }
 {
-    (s.prologue == 0) & (s.epilogue != 0) & !s.load
+    (slices.prologue == 0) & (slices.epilogue != 0) & !slices.load
 }
 
 // 17 where the function is finalized already, 12 where it has an epilogue without a prologue.
@@ -239,21 +306,29 @@ pub fn finalize(
     sections: &[u32],
     bytes: &[u8],
     known: &[u64],
-    k: &mut [u64; places::KEYS],
-    v: &mut [u64; places::VALUES],
+    keys: &mut [u64; places::KEYS],
+    values: &mut [u64; places::VALUES],
     code: obj::sections::Code,
-    n: usize,
-    s: lists::Small,
-) -> lists::Small
-    requires lent { ⌜ Few (now sections) × InBytes (now bytes) code × Kept n (now known) ⌝ }
-    requires fit { ⌜ Fit (now k) (now v) s × (s .fault ≡ 0) ⌝ }
-    ensures { λ r. ⌜ (drop AT-PENDING (now (k .exit)) ≡ drop AT-PENDING (now (k .entry))) × ((l : Lent) → l .sections ≡ now (sections .entry) → Checked (now (bytes .entry)) code l → (es : List Entry) → Knows n (now (known .entry)) es → Listed (rules.finalize (image l) es (view (now (k .entry)) (now (v .entry)) s)) (now (k .exit)) (now (v .exit)) r) ⌝ }
+    count: usize,
+    slices: function_slices::Small,
+) -> function_slices::Small
+    requires lent { ⌜ Few (now sections) × InBytes (now bytes) code × Kept count (now known) ⌝ }
+    requires fit { ⌜ Fit (now keys) (now values) slices × (slices .fault ≡ 0) ⌝ }
+    ensures { λ r.
+        ⌜ (drop AT-PENDING (now (keys .exit)) ≡ drop AT-PENDING (now (keys .entry))) ×
+        ((l : Lent) →
+        l .sections ≡ now (sections .entry) →
+        Checked (now (bytes .entry)) code l →
+        (es : List Entry) →
+        Knows count (now (known .entry)) es →
+        Listed (rules.finalize (image l) es (view (now (keys .entry)) (now (values .entry)) slices)) (now (keys .exit))
+        (now (values .exit)) r) ⌝ }
 {
-    if s.finalized {
-        return with_fault(s, 17);
+    if slices.finalized {
+        return with_fault(slices, 17);
     }
-    if lacks_prologue(s) {
-        return with_fault(s, 12);
+    if lacks_prologue(slices) {
+        return with_fault(slices, 12);
     }
-    finalize_closed(sections, bytes, known, k, v, code, n, s)
+    finalize_closed(sections, bytes, known, keys, values, code, count, slices)
 }

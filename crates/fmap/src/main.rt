@@ -20,22 +20,23 @@ fn read_text(text: &mut Text) -> usize
     io::read_full(0, text)
 }
 
-// What is printed of the first n bytes, which were read: `out` begins with it, and is as it was behind it. The answer is how long it is.
-fn map_read(text: &Text, n: usize, out: &mut Out) -> usize
-    requires read { ⌜ n ≤ length (now text) ⌝ }
+// What is printed of the first `count` bytes, which were read: `out` begins with it, and is as it was behind it. The answer is how long it
+// is.
+fn map_read(text: &Text, count: usize, out: &mut Out) -> usize
+    requires read { ⌜ count ≤ length (now text) ⌝ }
     requires room { ⌜ length (now out) ≡ 1489000 ⌝ }
-    ensures { λ r. ⌜ Begun (fmap-text (take n (now (text .entry)))) (now (out .entry)) (now (out .exit)) r ⌝ }
+    ensures { λ r. ⌜ Begun (fmap-text (take count (now (text .entry)))) (now (out .entry)) (now (out .exit)) r ⌝ }
 {
     let all: &[u8] = text;
-    mapping::fmap_text(&all[0..n], out)
+    mapping::fmap_text(&all[0..count], out)
 }
 
-// The first n bytes to standard output. Nothing can be said of what is written.
-fn write_text(out: &Out, n: usize)
-    requires { ⌜ n ≤ length (now out) ⌝ }
+// The first `count` bytes to standard output. Nothing can be said of what is written.
+fn write_text(out: &Out, count: usize)
+    requires { ⌜ count ≤ length (now out) ⌝ }
 {
     let all: &[u8] = out;
-    io::write_all(1, &all[0..n]);
+    io::write_all(1, &all[0..count]);
 }
 
 fn main() {

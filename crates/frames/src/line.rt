@@ -80,14 +80,14 @@ fn are_digits(line: &[u8]) -> bool
     true
 }
 
-// The number that n digits stand for, from a place on.
-pub fn hex(line: &[u8], from: usize, n: usize) -> u32
-    requires { ⌜ (from + n ≤ length (now line)) × (n ≤ 8) ⌝ }
-    ensures { λ r. ⌜ r ≡ lines.number (now (line .entry)) from n ⌝ }
+// The number that `count` digits stand for, from a place on.
+pub fn hex(line: &[u8], from: usize, count: usize) -> u32
+    requires { ⌜ (from + count ≤ length (now line)) × (count ≤ 8) ⌝ }
+    ensures { λ r. ⌜ r ≡ lines.number (now (line .entry)) from count ⌝ }
 {
     let mut v: u32 = 0;
     let mut i: usize = 0;
-    while i < n {
+    while i < count {
         v = v * 16 + digit_value(line[from + i]) % 16;
         i += 1;
     }
@@ -154,7 +154,9 @@ fn branch_line(line: &[u8]) -> Frame
 
 // A frame of one word.
 fn one_word(line: &[u8], kind: u32) -> Frame
-    ensures { λ r. ⌜ frame-of r ≡ if (eqb (length (now (line .entry))) 10) (of-kind kind (lines.number (now (line .entry)) 2 8) 0 0) none ⌝ }
+    ensures { λ r.
+        ⌜ frame-of r ≡ if (eqb (length (now (line .entry))) 10)
+        (of-kind kind (lines.number (now (line .entry)) 2 8) 0 0) none ⌝ }
 {
     if line.len() == 10 {
         return of_numbers(kind, hex(line, 2, 8), 0, 0);
@@ -164,7 +166,9 @@ fn one_word(line: &[u8], kind: u32) -> Frame
 
 // A frame of two words.
 fn two_words(line: &[u8], kind: u32) -> Frame
-    ensures { λ r. ⌜ frame-of r ≡ if (eqb (length (now (line .entry))) 18) (of-kind kind (lines.number (now (line .entry)) 2 8) (lines.number (now (line .entry)) 10 8) 0) none ⌝ }
+    ensures { λ r.
+        ⌜ frame-of r ≡ if (eqb (length (now (line .entry))) 18)
+        (of-kind kind (lines.number (now (line .entry)) 2 8) (lines.number (now (line .entry)) 10 8) 0) none ⌝ }
 {
     if line.len() == 18 {
         return of_numbers(kind, hex(line, 2, 8), hex(line, 10, 8), 0);
@@ -174,7 +178,11 @@ fn two_words(line: &[u8], kind: u32) -> Frame
 
 // A function or object symbol.
 fn symbol_line(line: &[u8], kind: u32) -> Frame
-    ensures { λ r. ⌜ frame-of r ≡ if (eqb (length (now (line .entry))) 20 && leb (lines.number (now (line .entry)) 18 2) 1) (of-kind kind (lines.number (now (line .entry)) 2 8) (lines.number (now (line .entry)) 10 8) (lines.number (now (line .entry)) 18 2)) none ⌝ }
+    ensures { λ r.
+        ⌜ frame-of r ≡ if (eqb (length (now (line .entry))) 20 && leb (lines.number (now (line .entry)) 18 2) 1)
+        (of-kind kind (lines.number (now (line .entry)) 2 8) (lines.number (now (line .entry)) 10 8)
+        (lines.number (now (line .entry)) 18 2))
+        none ⌝ }
 {
     if line.len() == 20 {
         let known = hex(line, 18, 2);

@@ -2,70 +2,78 @@
 ghost use mathlib.Core.Path.{_≡_};
 ghost use Prim.Native.Nat.{_+_, _≤_};
 ghost use lib.ListN.{length, take};
-ghost use Rattle.frames.specs.LastRows.{Told, Now, last-is, set-target, set-table, with-branch, add-branch};
+ghost use Rattle.frames.specs.LastRows.{Told, Now, last-is, set-target, set-jump-table-reference, with-branch, add-branch};
 ghost use Rattle.frames.specs.LastRows as ends;
 use crate::words::back;
 use crate::words::set_back;
 use crate::words::set_pair;
 
 // Whether there is a last code word, and its outcome is of this kind.
-fn last_is(outcomes: &[u32], n: usize, kind: u32) -> bool
-    requires { ⌜ n ≤ length (now outcomes) ⌝ }
-    ensures { λ r. ⌜ r ≡ last-is kind (take n (now (outcomes .entry))) ⌝ }
+fn last_is(outcomes: &[u32], count: usize, kind: u32) -> bool
+    requires { ⌜ count ≤ length (now outcomes) ⌝ }
+    ensures { λ r. ⌜ r ≡ last-is kind (take count (now (outcomes .entry))) ⌝ }
 {
-    if n < 6 {
+    if count < 6 {
         return false;
     }
-    back(outcomes, n, 6) == kind
+    back(outcomes, count, 6) == kind
 }
 
 // Where the last code word jumps to; false where it is no jump.
-pub fn set_target(outcomes: &mut [u32], n: usize, a: u32) -> bool
-    requires { ⌜ n ≤ length (now outcomes) ⌝ }
-    ensures { λ r. ⌜ Told n (now (outcomes .entry)) (now (outcomes .exit)) r (set-target a (take n (now (outcomes .entry)))) ⌝ }
+pub fn set_target(outcomes: &mut [u32], count: usize, a: u32) -> bool
+    requires { ⌜ count ≤ length (now outcomes) ⌝ }
+    ensures { λ r.
+        ⌜ Told count (now (outcomes .entry)) (now (outcomes .exit)) r
+        (set-target a (take count (now (outcomes .entry)))) ⌝ }
 {
-    if last_is(outcomes, n, 4) {
-        set_back(outcomes, n, 4, a);
+    if last_is(outcomes, count, 4) {
+        set_back(outcomes, count, 4, a);
         return true;
     }
     false
 }
 
 // The last code word's jump table; false where it has none.
-pub fn set_table(outcomes: &mut [u32], n: usize, a: u32, size: u32) -> bool
-    requires { ⌜ n ≤ length (now outcomes) ⌝ }
-    ensures { λ r. ⌜ Told n (now (outcomes .entry)) (now (outcomes .exit)) r (set-table a size (take n (now (outcomes .entry)))) ⌝ }
+pub fn set_jump_table_reference(outcomes: &mut [u32], count: usize, a: u32, size: u32) -> bool
+    requires { ⌜ count ≤ length (now outcomes) ⌝ }
+    ensures { λ r.
+        ⌜ Told count (now (outcomes .entry)) (now (outcomes .exit)) r
+        (set-jump-table-reference a size (take count (now (outcomes .entry)))) ⌝ }
 {
-    if last_is(outcomes, n, 5) {
-        set_pair(outcomes, n, 4, 3, a, size);
+    if last_is(outcomes, count, 5) {
+        set_pair(outcomes, count, 4, 3, a, size);
         return true;
     }
     false
 }
 
 // One branch more of a row; with a third the row breaks its rule.
-fn with_branch(outcomes: &mut [u32], n: usize, way: u32, a: u32)
-    requires { ⌜ (6 ≤ n) × (n ≤ length (now outcomes)) ⌝ }
-    ensures { λ _. ⌜ Now n (now (outcomes .entry)) (now (outcomes .exit)) (with-branch way a (take n (now (outcomes .entry)))) ⌝ }
+fn with_branch(outcomes: &mut [u32], count: usize, way: u32, a: u32)
+    requires { ⌜ (6 ≤ count) × (count ≤ length (now outcomes)) ⌝ }
+    ensures { λ _.
+        ⌜ Now count (now (outcomes .entry)) (now (outcomes .exit))
+        (with-branch way a (take count (now (outcomes .entry)))) ⌝ }
 {
-    if back(outcomes, n, 4) == 0 {
-        set_pair(outcomes, n, 4, 3, way, a);
+    if back(outcomes, count, 4) == 0 {
+        set_pair(outcomes, count, 4, 3, way, a);
         return;
     }
-    if back(outcomes, n, 2) == 0 {
-        set_pair(outcomes, n, 2, 1, way, a);
+    if back(outcomes, count, 2) == 0 {
+        set_pair(outcomes, count, 2, 1, way, a);
         return;
     }
-    set_back(outcomes, n, 2, 4);
+    set_back(outcomes, count, 2, 4);
 }
 
 // The next branch of the last code word; false where it has no branches.
-pub fn add_branch(outcomes: &mut [u32], n: usize, link: u32, to: u32, a: u32) -> bool
-    requires { ⌜ (n ≤ length (now outcomes)) × (link ≤ 1) × (to ≤ 2) ⌝ }
-    ensures { λ r. ⌜ Told n (now (outcomes .entry)) (now (outcomes .exit)) r (add-branch link to a (take n (now (outcomes .entry)))) ⌝ }
+pub fn add_branch(outcomes: &mut [u32], count: usize, link: u32, to: u32, a: u32) -> bool
+    requires { ⌜ (count ≤ length (now outcomes)) × (link ≤ 1) × (to ≤ 2) ⌝ }
+    ensures { λ r.
+        ⌜ Told count (now (outcomes .entry)) (now (outcomes .exit)) r
+        (add-branch link to a (take count (now (outcomes .entry)))) ⌝ }
 {
-    if last_is(outcomes, n, 6) {
-        with_branch(outcomes, n, link * 4 + to + 1, a);
+    if last_is(outcomes, count, 6) {
+        with_branch(outcomes, count, link * 4 + to + 1, a);
         return true;
     }
     false

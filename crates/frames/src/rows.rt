@@ -10,143 +10,128 @@ pub struct Count {
     pub count: usize,
 }
 
-fn put(xs: &mut [u32], n: usize, v: u32)
-    requires { ⌜ n < length (now xs) ⌝ }
-    ensures { λ _. ⌜ Put n (v ∷ []) (now (xs .entry)) (now (xs .exit)) ⌝ }
+fn put(xs: &mut [u32], count: usize, value: u32)
+    requires { ⌜ count < length (now xs) ⌝ }
+    ensures { λ _. ⌜ Put count (value ∷ []) (now (xs .entry)) (now (xs .exit)) ⌝ }
 {
-    xs[n] = v;
+    xs[count] = value;
 }
 
-fn put_two(xs: &mut [u32], n: usize, a: u32, b: u32)
-    requires { ⌜ n + 2 ≤ length (now xs) ⌝ }
-    ensures { λ _. ⌜ Put n (a ∷ b ∷ []) (now (xs .entry)) (now (xs .exit)) ⌝ }
+fn put_two(xs: &mut [u32], count: usize, a: u32, b: u32)
+    requires { ⌜ count + 2 ≤ length (now xs) ⌝ }
+    ensures { λ _. ⌜ Put count (a ∷ b ∷ []) (now (xs .entry)) (now (xs .exit)) ⌝ }
 {
-    put(xs, n, a);
-    put(xs, n + 1, b);
+    put(xs, count, a);
+    put(xs, count + 1, b);
 }
 
-fn put_three(xs: &mut [u32], n: usize, a: u32, b: u32, c: u32)
-    requires { ⌜ n + 3 ≤ length (now xs) ⌝ }
-    ensures { λ _. ⌜ Put n (a ∷ b ∷ c ∷ []) (now (xs .entry)) (now (xs .exit)) ⌝ }
+fn put_three(xs: &mut [u32], count: usize, a: u32, b: u32, c: u32)
+    requires { ⌜ count + 3 ≤ length (now xs) ⌝ }
+    ensures { λ _. ⌜ Put count (a ∷ b ∷ c ∷ []) (now (xs .entry)) (now (xs .exit)) ⌝ }
 {
-    put(xs, n, a);
-    put_two(xs, n + 1, b, c);
+    put(xs, count, a);
+    put_two(xs, count + 1, b, c);
 }
 
-fn put_four(xs: &mut [u32], n: usize, a: u32, b: u32, c: u32, d: u32)
-    requires { ⌜ n + 4 ≤ length (now xs) ⌝ }
-    ensures { λ _. ⌜ Put n (a ∷ b ∷ c ∷ d ∷ []) (now (xs .entry)) (now (xs .exit)) ⌝ }
+fn put_four(xs: &mut [u32], count: usize, a: u32, b: u32, c: u32, d: u32)
+    requires { ⌜ count + 4 ≤ length (now xs) ⌝ }
+    ensures { λ _. ⌜ Put count (a ∷ b ∷ c ∷ d ∷ []) (now (xs .entry)) (now (xs .exit)) ⌝ }
 {
-    put_two(xs, n, a, b);
-    put_two(xs, n + 2, c, d);
+    put_two(xs, count, a, b);
+    put_two(xs, count + 2, c, d);
 }
 
 // An outcome's row with no address yet.
-fn put_six(xs: &mut [u32], n: usize, a: u32, b: u32)
-    requires { ⌜ n + 6 ≤ length (now xs) ⌝ }
-    ensures { λ _. ⌜ Put n (a ∷ b ∷ 0 ∷ 0 ∷ 0 ∷ 0 ∷ []) (now (xs .entry)) (now (xs .exit)) ⌝ }
+fn put_six(xs: &mut [u32], count: usize, a: u32, b: u32)
+    requires { ⌜ count + 6 ≤ length (now xs) ⌝ }
+    ensures { λ _. ⌜ Put count (a ∷ b ∷ 0 ∷ 0 ∷ 0 ∷ 0 ∷ []) (now (xs .entry)) (now (xs .exit)) ⌝ }
 {
-    put_two(xs, n, a, b);
-    put_four(xs, n + 2, 0, 0, 0, 0);
+    put_two(xs, count, a, b);
+    put_four(xs, count + 2, 0, 0, 0, 0);
 }
 
 // A row of one number, of two, three, four, or of an outcome. Where there is no room, nothing is put.
-pub fn add_one(xs: &mut [u32], n: usize, limit: usize, a: u32) -> Count
-    requires { ⌜ n ≤ length (now xs) ⌝ }
-    ensures { λ r. ⌜ Added limit n (a ∷ []) (now (xs .entry)) (now (xs .exit)) r ⌝ }
+pub fn add_one(xs: &mut [u32], count: usize, limit: usize, a: u32) -> Count
+    requires { ⌜ count ≤ length (now xs) ⌝ }
+    ensures { λ r. ⌜ Added limit count (a ∷ []) (now (xs .entry)) (now (xs .exit)) r ⌝ }
 {
-    if limit < n {
-        return Count { ok: true, count: n };
+    if limit < count {
+        return Count { ok: true, count };
     }
-    if xs.len() - n < 1 {
-        return Count {
-            ok: false,
-            count: n,
-        };
+    if xs.len() - count < 1 {
+        return Count { ok: false, count };
     }
-    put(xs, n, a);
+    put(xs, count, a);
     Count {
         ok: true,
-        count: n + 1,
+        count: count + 1,
     }
 }
 
-pub fn add_two(xs: &mut [u32], n: usize, limit: usize, a: u32, b: u32) -> Count
-    requires { ⌜ n ≤ length (now xs) ⌝ }
-    ensures { λ r. ⌜ Added limit n (a ∷ b ∷ []) (now (xs .entry)) (now (xs .exit)) r ⌝ }
+pub fn add_two(xs: &mut [u32], count: usize, limit: usize, a: u32, b: u32) -> Count
+    requires { ⌜ count ≤ length (now xs) ⌝ }
+    ensures { λ r. ⌜ Added limit count (a ∷ b ∷ []) (now (xs .entry)) (now (xs .exit)) r ⌝ }
 {
-    if limit < n {
-        return Count { ok: true, count: n };
+    if limit < count {
+        return Count { ok: true, count };
     }
-    if xs.len() - n < 2 {
-        return Count {
-            ok: false,
-            count: n,
-        };
+    if xs.len() - count < 2 {
+        return Count { ok: false, count };
     }
-    put_two(xs, n, a, b);
+    put_two(xs, count, a, b);
     Count {
         ok: true,
-        count: n + 2,
+        count: count + 2,
     }
 }
 
-pub fn add_three(xs: &mut [u32], n: usize, limit: usize, a: u32, b: u32, c: u32) -> Count
-    requires { ⌜ n ≤ length (now xs) ⌝ }
-    ensures { λ r. ⌜ Added limit n (a ∷ b ∷ c ∷ []) (now (xs .entry)) (now (xs .exit)) r ⌝ }
+pub fn add_three(xs: &mut [u32], count: usize, limit: usize, a: u32, b: u32, c: u32) -> Count
+    requires { ⌜ count ≤ length (now xs) ⌝ }
+    ensures { λ r. ⌜ Added limit count (a ∷ b ∷ c ∷ []) (now (xs .entry)) (now (xs .exit)) r ⌝ }
 {
-    if limit < n {
-        return Count { ok: true, count: n };
+    if limit < count {
+        return Count { ok: true, count };
     }
-    if xs.len() - n < 3 {
-        return Count {
-            ok: false,
-            count: n,
-        };
+    if xs.len() - count < 3 {
+        return Count { ok: false, count };
     }
-    put_three(xs, n, a, b, c);
+    put_three(xs, count, a, b, c);
     Count {
         ok: true,
-        count: n + 3,
+        count: count + 3,
     }
 }
 
-pub fn add_four(xs: &mut [u32], n: usize, limit: usize, a: u32, b: u32, c: u32, d: u32) -> Count
-    requires { ⌜ n ≤ length (now xs) ⌝ }
-    ensures { λ r. ⌜ Added limit n (a ∷ b ∷ c ∷ d ∷ []) (now (xs .entry)) (now (xs .exit)) r ⌝ }
+pub fn add_four(xs: &mut [u32], count: usize, limit: usize, a: u32, b: u32, c: u32, d: u32) -> Count
+    requires { ⌜ count ≤ length (now xs) ⌝ }
+    ensures { λ r. ⌜ Added limit count (a ∷ b ∷ c ∷ d ∷ []) (now (xs .entry)) (now (xs .exit)) r ⌝ }
 {
-    if limit < n {
-        return Count { ok: true, count: n };
+    if limit < count {
+        return Count { ok: true, count };
     }
-    if xs.len() - n < 4 {
-        return Count {
-            ok: false,
-            count: n,
-        };
+    if xs.len() - count < 4 {
+        return Count { ok: false, count };
     }
-    put_four(xs, n, a, b, c, d);
+    put_four(xs, count, a, b, c, d);
     Count {
         ok: true,
-        count: n + 4,
+        count: count + 4,
     }
 }
 
-pub fn add_six(xs: &mut [u32], n: usize, limit: usize, a: u32, b: u32) -> Count
-    requires { ⌜ n ≤ length (now xs) ⌝ }
-    ensures { λ r. ⌜ Added limit n (a ∷ b ∷ 0 ∷ 0 ∷ 0 ∷ 0 ∷ []) (now (xs .entry)) (now (xs .exit)) r ⌝ }
+pub fn add_six(xs: &mut [u32], count: usize, limit: usize, a: u32, b: u32) -> Count
+    requires { ⌜ count ≤ length (now xs) ⌝ }
+    ensures { λ r. ⌜ Added limit count (a ∷ b ∷ 0 ∷ 0 ∷ 0 ∷ 0 ∷ []) (now (xs .entry)) (now (xs .exit)) r ⌝ }
 {
-    if limit < n {
-        return Count { ok: true, count: n };
+    if limit < count {
+        return Count { ok: true, count };
     }
-    if xs.len() - n < 6 {
-        return Count {
-            ok: false,
-            count: n,
-        };
+    if xs.len() - count < 6 {
+        return Count { ok: false, count };
     }
-    put_six(xs, n, a, b);
+    put_six(xs, count, a, b);
     Count {
         ok: true,
-        count: n + 6,
+        count: count + 6,
     }
 }

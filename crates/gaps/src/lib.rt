@@ -24,7 +24,10 @@ fn is_zero(bytes: &[u8], code: obj::sections::Code, end: u32, b: u32) -> bool
 // The first word from a, over skip ranges and zero words, that ends by `end`; `end` where there is none.
 fn skip_alignment(bytes: &[u8], skips: &[u32], code: obj::sections::Code, a: u32, end: u32) -> u32
     requires { ⌜ InBytes (now bytes) code × Ascending (now skips) ⌝ }
-    ensures { λ r. ⌜ ((l : Lent) (cap : rules.Capacity) → Looks (now (bytes .entry)) (now (skips .entry)) code l → r ≡ rules.skip-alignment (image l) cap a end) ⌝ }
+    ensures { λ r.
+        ⌜ ((l : Lent) (cap : rules.Capacity) →
+        Looks (now (bytes .entry)) (now (skips .entry)) code l →
+        r ≡ rules.skip-alignment (image l) cap a end) ⌝ }
 {
     let mut b = obj::skips::skip_range(skips, a);
     while is_zero(bytes, code, end, b) {
@@ -40,7 +43,10 @@ fn skip_alignment(bytes: &[u8], skips: &[u32], code: obj::sections::Code, a: u32
 fn new_between(bytes: &[u8], skips: &[u32], code: obj::sections::Code, end: u64, after: u64) -> u64
     requires lent { ⌜ InBytes (now bytes) code × Ascending (now skips) ⌝ }
     requires low { ⌜ (code .number < 16) × (0 < code .number) ⌝ }
-    ensures { λ r. ⌜ ((l : Lent) (cap : rules.Capacity) → Looks (now (bytes .entry)) (now (skips .entry)) code l → some-key r ≡ rules.new-between (image l) cap end after) ⌝ }
+    ensures { λ r.
+        ⌜ ((l : Lent) (cap : rules.Capacity) →
+        Looks (now (bytes .entry)) (now (skips .entry)) code l →
+        some-key r ≡ rules.new-between (image l) cap end after) ⌝ }
 {
     let until = (after % 0x1_0000_0000) as u32;
     let a = skip_alignment(bytes, skips, code, (end % 0x1_0000_0000) as u32, until);
@@ -59,7 +65,10 @@ pub struct Found {
 // The first address past the code section.
 pub fn section_end(code: obj::sections::Code) -> u64
     requires { ⌜ code .number < 16 ⌝ }
-    ensures { λ r. ⌜ ((l : Lent) (cap : rules.Capacity) (b sk : List ℕ) → Looks b sk code l → r ≡ rules.section-end (image l) cap) ⌝ }
+    ensures { λ r.
+        ⌜ ((l : Lent) (cap : rules.Capacity) (b sk : List ℕ) →
+        Looks b sk code l →
+        r ≡ rules.section-end (image l) cap) ⌝ }
 {
     code.number * 0x1_0000_0000 + obj::sections::wide(code.base) + obj::sections::wide(code.size)
 }
@@ -74,7 +83,12 @@ pub fn found_behind(
 ) -> Found
     requires lent { ⌜ InBytes (now bytes) code × Ascending (now skips) ⌝ }
     requires low { ⌜ (code .number < 16) × (0 < code .number) ⌝ }
-    ensures { λ r. ⌜ ((l : Lent) (cap : rules.Capacity) → Looks (now (bytes .entry)) (now (skips .entry)) code l → (x : Entry) → x .end ≡ end → rules.found-behind (image l) cap x after ≡ found-of r) ⌝ }
+    ensures { λ r.
+        ⌜ ((l : Lent) (cap : rules.Capacity) →
+        Looks (now (bytes .entry)) (now (skips .entry)) code l →
+        (x : Entry) →
+        x .end ≡ end →
+        rules.found-behind (image l) cap x after ≡ found-of r) ⌝ }
 {
     if end == 0 {
         return Found { key: 0, fault: 0 };

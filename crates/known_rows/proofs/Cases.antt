@@ -15,8 +15,8 @@ use Rattle.rules.specs.Check.{chained}
 use Rattle.rules.specs.OneFunction.{known-entry, are-known}
 use Rattle.ordered.specs.Columns.{join}
 use Rattle.ordered.proofs.Columns.{rows-keys}
-use Rattle.lists.specs.View.{part}
-use Rattle.lists.proofs.Parts.{Lent, over, lent, part-length}
+use Rattle.function_slices.specs.View.{part}
+use Rattle.function_slices.proofs.Parts.{Lent, over, lent, part-length}
 use Rattle.known.specs.Table.{as-block, Kept, Knows}
 use Rattle.known_rows.specs.Rows.{known-blocks, are-known-list, every-other, Filled, Taken}
 use Rattle.known_rows.proofs.Columns.{columns-are, blocks-count, others-count}

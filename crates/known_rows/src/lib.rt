@@ -7,39 +7,39 @@ ghost use Rattle.rules.specs.Check.{chained};
 ghost use Rattle.known_rows.specs.Rows.{every-other, Filled, Taken};
 ghost use Rattle.known.specs.Table.{ENTRIES, KNOWN};
 
-// Every other number of the rows, from the first or the second on: n of them.
-fn copy_column(rows: &[u64], from: usize, n: usize, out: &mut [u64])
-    requires { ⌜ (from ≤ 1) × (n + n ≤ length (now rows)) × (n ≤ length (now out)) ⌝ }
+// Every other number of the rows, from the first or the second on: `count` of them.
+fn copy_column(rows: &[u64], from: usize, count: usize, out: &mut [u64])
+    requires { ⌜ (from ≤ 1) × (count + count ≤ length (now rows)) × (count ≤ length (now out)) ⌝ }
     ensures size { λ _. ⌜ length (now (out .exit)) ≡ length (now (out .entry)) ⌝ }
-    ensures column { λ _. ⌜ take n (now (out .exit)) ≡ take n (every-other (drop from (now (rows .entry)))) ⌝ }
+    ensures column { λ _. ⌜ take count (now (out .exit)) ≡ take count (every-other (drop from (now (rows .entry)))) ⌝ }
 {
     let mut i: usize = 0;
-    while i < n {
+    while i < count {
         out[i] = rows[from + 2 * i];
         i += 1;
     }
 }
 
 // The entries into the first half, the ends into the second.
-fn fill_known(rows: &[u64], n: usize, known: &mut [u64])
-    requires { ⌜ (length (now rows) ≡ n + n) × (n ≤ ENTRIES) × (length (now known) ≡ KNOWN) ⌝ }
-    ensures { λ _. ⌜ Filled n (now (rows .entry)) (now (known .exit)) ⌝ }
+fn fill_known(rows: &[u64], count: usize, known: &mut [u64])
+    requires { ⌜ (length (now rows) ≡ count + count) × (count ≤ ENTRIES) × (length (now known) ≡ KNOWN) ⌝ }
+    ensures { λ _. ⌜ Filled count (now (rows .entry)) (now (known .exit)) ⌝ }
 {
     let a: usize = 0;
     let b: usize = known::AT_ENDS;
     let c: usize = known::KNOWN;
-    copy_column(rows, 0, n, &mut known[a..b]);
-    copy_column(rows, 1, n, &mut known[b..c]);
+    copy_column(rows, 0, count, &mut known[a..b]);
+    copy_column(rows, 1, count, &mut known[b..c]);
 }
 
-// Whether each of the first n elements is above the one before.
-fn ascends(xs: &[u64], n: usize) -> bool
-    requires { ⌜ n ≤ length (now xs) ⌝ }
-    ensures { λ r. ⌜ r ≡ chained ltb (take n (now (xs .entry))) ⌝ }
+// Whether each of the first `count` elements is above the one before.
+fn ascends(xs: &[u64], count: usize) -> bool
+    requires { ⌜ count ≤ length (now xs) ⌝ }
+    ensures { λ r. ⌜ r ≡ chained ltb (take count (now (xs .entry))) ⌝ }
 {
     let mut i: usize = 0;
     let mut j: usize = 1;
-    while j < n {
+    while j < count {
         if xs[j] <= xs[i] {
             return false;
         }

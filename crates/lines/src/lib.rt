@@ -78,8 +78,8 @@ pub fn fresh() -> State {
     }
 }
 
-fn at(s: State, place: u32) -> State {
-    let mut r = s;
+fn at(state: State, place: u32) -> State {
+    let mut r = state;
     r.place = place;
     r.value = 0;
     r.digits = 0;
@@ -87,8 +87,8 @@ fn at(s: State, place: u32) -> State {
 }
 
 // The rest of the line is passed over.
-fn wrong(s: State) -> State {
-    let mut r = at(s, WRONG);
+fn wrong(state: State) -> State {
+    let mut r = at(state, WRONG);
     r.bad = true;
     r
 }
@@ -121,8 +121,8 @@ fn list_of(b: u8) -> usize {
 }
 
 // A line of a list begins. The lines of a list of numbers stand together, so one that has numbers is not begun again.
-fn begin_list(s: State, list: usize) -> State {
-    let mut r = at(s, AMONG);
+fn begin_list(state: State, list: usize) -> State {
+    let mut r = at(state, AMONG);
     r.line = r.numbers;
     if list == r.list {
         return r;
@@ -139,8 +139,8 @@ fn begin_list(s: State, list: usize) -> State {
 }
 
 // The first byte of a line.
-fn begin_line(s: State, b: u8) -> State {
-    let mut r = s;
+fn begin_line(state: State, b: u8) -> State {
+    let mut r = state;
     r.open = true;
     if b == b'#' {
         return at(r, REMARK);
@@ -155,11 +155,11 @@ fn begin_line(s: State, b: u8) -> State {
     r
 }
 
-fn put_byte(bytes: &mut Bytes, s: State, v: u32) -> State {
-    let n = s.bytes;
-    let mut r = at(s, AMONG);
+fn put_byte(bytes: &mut Bytes, state: State, value: u32) -> State {
+    let n = state.bytes;
+    let mut r = at(state, AMONG);
     if n < 300000 {
-        bytes[n] = (v % 256) as u8;
+        bytes[n] = (value % 256) as u8;
         r.bytes = n + 1;
         return r;
     }
@@ -168,33 +168,33 @@ fn put_byte(bytes: &mut Bytes, s: State, v: u32) -> State {
 }
 
 // A digit of a number or count, which have up to eight, or of a byte, which has two.
-fn take_digit(bytes: &mut Bytes, s: State, d: u32) -> State {
-    let n = s.digits;
+fn take_digit(bytes: &mut Bytes, state: State, d: u32) -> State {
+    let n = state.digits;
     if n < 8 {
-        let v = s.value % 0x1000_0000 * 16 + d % 16;
-        if n == 1 && s.list == BYTES && s.place == AMONG {
-            return put_byte(bytes, s, v);
+        let v = state.value % 0x1000_0000 * 16 + d % 16;
+        if n == 1 && state.list == BYTES && state.place == AMONG {
+            return put_byte(bytes, state, v);
         }
-        let mut r = s;
+        let mut r = state;
         r.value = v;
         r.digits = n + 1;
         return r;
     }
-    wrong(s)
+    wrong(state)
 }
 
 // The number that was read, if there is one, is put into its list. Half a byte is none.
-fn put_number(numbers: &mut Numbers, s: State) -> State {
-    if s.digits == 0 {
-        return s;
+fn put_number(numbers: &mut Numbers, state: State) -> State {
+    if state.digits == 0 {
+        return state;
     }
-    if s.list == BYTES {
-        return wrong(s);
+    if state.list == BYTES {
+        return wrong(state);
     }
-    let n = s.numbers;
-    let mut r = at(s, AMONG);
+    let n = state.numbers;
+    let mut r = at(state, AMONG);
     if n < 400000 {
-        numbers[n] = s.value;
+        numbers[n] = state.value;
         r.numbers = n + 1;
         return r;
     }
@@ -203,40 +203,40 @@ fn put_number(numbers: &mut Numbers, s: State) -> State {
 }
 
 // What stands between the numbers of a line, or before its count.
-fn take_mark(numbers: &mut Numbers, s: State, b: u8) -> State {
-    if s.place == AMONG {
+fn take_mark(numbers: &mut Numbers, state: State, b: u8) -> State {
+    if state.place == AMONG {
         if b == b' ' {
-            return put_number(numbers, s);
+            return put_number(numbers, state);
         }
         if b == b'*' {
-            return at(put_number(numbers, s), COUNT);
+            return at(put_number(numbers, state), COUNT);
         }
     }
-    wrong(s)
+    wrong(state)
 }
 
-// How many numbers there are once those from `line` up to `n` come `count` times; 2^40, which is more than there is room for, where
+// How many numbers there are once those from `line` up to `len` come `count` times; 2^40, which is more than there is room for, where
 // that is too many to tell.
-fn end_of(line: usize, n: usize, count: u32) -> usize {
-    if line <= n {
-        if n <= 400000 {
-            return line + (n - line) * count as usize;
+fn end_of(line: usize, len: usize, count: u32) -> usize {
+    if line <= len {
+        if len <= 400000 {
+            return line + (len - line) * count as usize;
         }
     }
     0x100_0000_0000
 }
 
 // The line's numbers come as often as its count says: how many there are then. Where there is no room for them none is put.
-fn repeat_numbers(numbers: &mut Numbers, line: usize, n: usize, count: u32) -> usize {
-    let end = end_of(line, n, count);
-    if n < line {
+fn repeat_numbers(numbers: &mut Numbers, line: usize, len: usize, count: u32) -> usize {
+    let end = end_of(line, len, count);
+    if len < line {
         return end;
     }
     if 400000 < end {
         return end;
     }
-    let width = n - line;
-    let mut i = n;
+    let width = len - line;
+    let mut i = len;
     while i < end {
         numbers[i] = numbers[i - width];
         i += 1;
@@ -244,16 +244,16 @@ fn repeat_numbers(numbers: &mut Numbers, line: usize, n: usize, count: u32) -> u
     end
 }
 
-fn repeat_bytes(bytes: &mut Bytes, line: usize, n: usize, count: u32) -> usize {
-    let end = end_of(line, n, count);
-    if n < line {
+fn repeat_bytes(bytes: &mut Bytes, line: usize, len: usize, count: u32) -> usize {
+    let end = end_of(line, len, count);
+    if len < line {
         return end;
     }
     if 300000 < end {
         return end;
     }
-    let width = n - line;
-    let mut i = n;
+    let width = len - line;
+    let mut i = len;
     while i < end {
         bytes[i] = bytes[i - width];
         i += 1;
@@ -262,24 +262,24 @@ fn repeat_bytes(bytes: &mut Bytes, line: usize, n: usize, count: u32) -> usize {
 }
 
 // A line ends with a count.
-fn end_count(numbers: &mut Numbers, bytes: &mut Bytes, s: State) -> State {
-    if s.digits == 0 {
-        return wrong(s);
+fn end_count(numbers: &mut Numbers, bytes: &mut Bytes, state: State) -> State {
+    if state.digits == 0 {
+        return wrong(state);
     }
-    let mut r = s;
-    if s.list == BYTES {
-        r.bytes = repeat_bytes(bytes, s.line, s.bytes, s.value);
-        r.full = s.full | (300000 < r.bytes);
+    let mut r = state;
+    if state.list == BYTES {
+        r.bytes = repeat_bytes(bytes, state.line, state.bytes, state.value);
+        r.full = state.full | (300000 < r.bytes);
         return r;
     }
-    r.numbers = repeat_numbers(numbers, s.line, s.numbers, s.value);
-    r.full = s.full | (400000 < r.numbers);
+    r.numbers = repeat_numbers(numbers, state.line, state.numbers, state.value);
+    r.full = state.full | (400000 < r.numbers);
     r
 }
 
 // A line of a list ends, which reaches as far as there are numbers.
-fn end_list(s: State) -> State {
-    let mut r = at(s, START);
+fn end_list(state: State) -> State {
+    let mut r = at(state, START);
     let list = r.list;
     if list < NONE {
         r.to[list] = r.numbers;
@@ -288,53 +288,53 @@ fn end_list(s: State) -> State {
 }
 
 // A line ends. An empty one is not of the format.
-fn end_line(numbers: &mut Numbers, bytes: &mut Bytes, s: State) -> State {
-    let place = s.place;
+fn end_line(numbers: &mut Numbers, bytes: &mut Bytes, state: State) -> State {
+    let place = state.place;
     if place == ENDED {
-        let mut r = s;
+        let mut r = state;
         r.ended = true;
         return r;
     }
     if place == AMONG {
-        return end_list(put_number(numbers, s));
+        return end_list(put_number(numbers, state));
     }
     if place == COUNT {
-        return end_list(end_count(numbers, bytes, s));
+        return end_list(end_count(numbers, bytes, state));
     }
-    let mut r = at(s, START);
+    let mut r = at(state, START);
     r.open = true;
-    r.bad = s.bad | (place == START);
+    r.bad = state.bad | (place == START);
     r
 }
 
 // A byte of the input. After the line `=` the image is ended; the next one begins with `fresh`.
-pub fn take(numbers: &mut Numbers, bytes: &mut Bytes, s: State, b: u8) -> State {
+pub fn take(numbers: &mut Numbers, bytes: &mut Bytes, state: State, b: u8) -> State {
     if b == b'\n' {
-        return end_line(numbers, bytes, s);
+        return end_line(numbers, bytes, state);
     }
-    if s.place == START {
-        return begin_line(s, b);
+    if state.place == START {
+        return begin_line(state, b);
     }
-    if s.place == REMARK {
-        return s;
+    if state.place == REMARK {
+        return state;
     }
-    if s.place == AMONG || s.place == COUNT {
+    if state.place == AMONG || state.place == COUNT {
         let d = value_of(b);
         if d < 16 {
-            return take_digit(bytes, s, d);
+            return take_digit(bytes, state, d);
         }
-        return take_mark(numbers, s, b);
+        return take_mark(numbers, state, b);
     }
-    wrong(s)
+    wrong(state)
 }
 
 // Whether an ended image is not to be answered, which is told. A line that is not of the format comes before too little room.
-pub fn refused(s: State) -> bool {
-    if s.bad {
+pub fn refused(state: State) -> bool {
+    if state.bad {
         io::write_all(1, b"?\n");
         return true;
     }
-    if s.full {
+    if state.full {
         io::write_all(1, b"!\n");
         return true;
     }
@@ -342,8 +342,8 @@ pub fn refused(s: State) -> bool {
 }
 
 // The input ends. An image that no line `=` ended gets no other answer.
-pub fn end_input(s: State) {
-    if s.open {
+pub fn end_input(state: State) {
+    if state.open {
         io::write_all(1, b"?\n=\n");
     }
 }

@@ -15,13 +15,16 @@ ghost use Rattle.mapping.specs.Answers.{answer, map-text, image-room, ma
 use reading::state::Reading;
 
 // The text of an answer: the map that the result lists hold, or the number alone.
-fn print_answer(number: u32, n: usize, rows: &[u64], lists: &[u64], out: &mut [u8]) -> usize
-    requires shown { ⌜ Showing number n (now rows) (now lists) ⌝ }
-    requires room { ⌜ 6 + 46 * n + 11 * length (now lists) ≤ length (now out) ⌝ }
-    ensures { λ r. ⌜ ((a : Answer (List Entry)) → Shows a number n (now (rows .entry)) (now (lists .entry)) → Begun (rules.text (rules.lines a)) (now (out .entry)) (now (out .exit)) r) ⌝ }
+fn print_answer(number: u32, count: usize, rows: &[u64], lists: &[u64], out: &mut [u8]) -> usize
+    requires shown { ⌜ Showing number count (now rows) (now lists) ⌝ }
+    requires room { ⌜ 6 + 46 * count + 11 * length (now lists) ≤ length (now out) ⌝ }
+    ensures { λ r.
+        ⌜ ((a : Answer (List Entry)) →
+        Shows a number count (now (rows .entry)) (now (lists .entry)) →
+        Begun (rules.text (rules.lines a)) (now (out .entry)) (now (out .exit)) r) ⌝ }
 {
     if number == 0 {
-        return printing::put_map(rows, lists, n, out);
+        return printing::put_map(rows, lists, count, out);
     }
     printing::put_refusal(number, out)
 }
@@ -40,7 +43,16 @@ fn map_lists(
     out: &mut [u8; 1489000],
 ) -> usize
     requires room { ⌜ 6 + 46 * (length (now rows) / 10) + 11 * length (now lists) ≤ length (now out) ⌝ }
-    ensures { λ r. ⌜ Begun (rules.text (rules.lines (run (given (lent (now (sections .entry)) (now (bytes .entry)) (now (outcomes .entry)) (now (functions .entry)) (now (objects .entry)) (now (skips .entry)) (now (entry .entry)))) (room-of (now (rows .entry)) (now (lists .entry)))))) (now (out .entry)) (now (out .exit)) r ⌝ }
+    ensures { λ r.
+        ⌜ Begun
+        (rules.text
+        (rules.lines
+        (run
+        (given
+        (lent (now (sections .entry)) (now (bytes .entry)) (now (outcomes .entry)) (now (functions .entry))
+        (now (objects .entry)) (now (skips .entry)) (now (entry .entry))))
+        (room-of (now (rows .entry)) (now (lists .entry))))))
+        (now (out .entry)) (now (out .exit)) r ⌝ }
 {
     let m = cfa::detect_functions(
         sections,
@@ -72,7 +84,15 @@ fn map_read(
 ) -> usize
     requires fit { ⌜ Fit q (now sections) (now bytes) (now outcomes) (now functions) (now objects) (now skips) (now entry) ⌝ }
     requires room { ⌜ 6 + 46 * (length (now rows) / 10) + 11 * length (now lists) ≤ length (now out) ⌝ }
-    ensures { λ r. ⌜ Begun (rules.text (rules.lines (answer (view q (now (sections .entry)) (now (bytes .entry)) (now (outcomes .entry)) (now (functions .entry)) (now (objects .entry)) (now (skips .entry)) (now (entry .entry))) (room-of (now (rows .entry)) (now (lists .entry)))))) (now (out .entry)) (now (out .exit)) r ⌝ }
+    ensures { λ r.
+        ⌜ Begun
+        (rules.text
+        (rules.lines
+        (answer
+        (view q (now (sections .entry)) (now (bytes .entry)) (now (outcomes .entry)) (now (functions .entry))
+        (now (objects .entry)) (now (skips .entry)) (now (entry .entry)))
+        (room-of (now (rows .entry)) (now (lists .entry))))))
+        (now (out .entry)) (now (out .exit)) r ⌝ }
 {
     if q.ok {
         let s = q.sections;
@@ -115,7 +135,13 @@ fn map_text(
     out: &mut [u8; 1489000],
 ) -> usize
     requires room { ⌜ 6 + 46 * (length (now rows) / 10) + 11 * length (now lists) ≤ length (now out) ⌝ }
-    ensures { λ r. ⌜ Begun (map-text (room (now (sections .entry)) (now (bytes .entry)) (now (outcomes .entry)) (now (functions .entry)) (now (objects .entry)) (now (skips .entry)) (now (entry .entry))) (room-of (now (rows .entry)) (now (lists .entry))) (now (text .entry))) (now (out .entry)) (now (out .exit)) r ⌝ }
+    ensures { λ r.
+        ⌜ Begun
+        (map-text
+        (room (now (sections .entry)) (now (bytes .entry)) (now (outcomes .entry)) (now (functions .entry))
+        (now (objects .entry)) (now (skips .entry)) (now (entry .entry)))
+        (room-of (now (rows .entry)) (now (lists .entry))) (now (text .entry)))
+        (now (out .entry)) (now (out .exit)) r ⌝ }
 {
     let q = texts::read_image(
         text,
@@ -156,7 +182,8 @@ fn map_in_arrays(
     lists: &mut [u64; 131072],
     out: &mut [u8; 1489000],
 ) -> usize
-    requires sized { ⌜ Sized (now sections) (now bytes) (now outcomes) (now functions) (now objects) (now skips) (now entry) (now rows) (now lists) (now out) ⌝ }
+    requires sized { ⌜ Sized (now sections) (now bytes) (now outcomes) (now functions) (now objects) (now skips) (now entry)
+        (now rows) (now lists) (now out) ⌝ }
     ensures { λ r. ⌜ Begun (map-text image-room map-room (now (text .entry))) (now (out .entry)) (now (out .exit)) r ⌝ }
 {
     map_text(

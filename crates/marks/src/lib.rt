@@ -24,11 +24,11 @@ pub fn is_block(start: u64, end: u64) -> bool
 }
 
 // Whether the last row, if one is left, is a block whose start is `least` or more.
-fn is_rest(ss: &[u64], es: &[u64], n: usize, i: usize, least: u64) -> bool
-    requires { ⌜ (n ≤ length (now ss)) × (n ≤ length (now es)) × (i ≤ n) × (n ≤ i + 1) ⌝ }
-    ensures { λ r. ⌜ r ≡ goes-on least (drop i (rows n (now (ss .entry)) (now (es .entry)))) ⌝ }
+fn is_rest(ss: &[u64], es: &[u64], count: usize, i: usize, least: u64) -> bool
+    requires { ⌜ (count ≤ length (now ss)) × (count ≤ length (now es)) × (i ≤ count) × (count ≤ i + 1) ⌝ }
+    ensures { λ r. ⌜ r ≡ goes-on least (drop i (rows count (now (ss .entry)) (now (es .entry)))) ⌝ }
 {
-    if n <= i {
+    if count <= i {
         return true;
     }
     let start = ss[i];
@@ -53,15 +53,15 @@ fn is_pair(start: u64, end: u64, second: u64, until: u64, least: u64) -> bool
 }
 
 // Whether all rows are blocks, and their starts ascend strictly. Two rows in each turn take less time than one in each of two.
-fn is_table(ss: &[u64], es: &[u64], n: usize) -> bool
-    requires { ⌜ (n ≤ length (now ss)) × (n ≤ length (now es)) ⌝ }
-    ensures { λ r. ⌜ r ≡ is-table (rows n (now (ss .entry)) (now (es .entry))) ⌝ }
+fn is_table(ss: &[u64], es: &[u64], count: usize) -> bool
+    requires { ⌜ (count ≤ length (now ss)) × (count ≤ length (now es)) ⌝ }
+    ensures { λ r. ⌜ r ≡ is-table (rows count (now (ss .entry)) (now (es .entry))) ⌝ }
 {
     let mut i: usize = 0;
     let mut next: usize = 1;
     // What the next start must reach: a start is a multiple of 4, so one more than it fits.
     let mut least: u64 = 0;
-    while next < n {
+    while next < count {
         let second = ss[next];
         if is_pair(ss[i], es[i], second, es[next], least) {
             least = second + 1;
@@ -71,7 +71,7 @@ fn is_table(ss: &[u64], es: &[u64], n: usize) -> bool
             return false;
         }
     }
-    is_rest(ss, es, n, i, least)
+    is_rest(ss, es, count, i, least)
 }
 
 fn shorter(a: usize, b: usize) -> usize
@@ -91,13 +91,13 @@ fn room_in(a: usize, b: usize) -> usize
 }
 
 // Whether the count fits both slices, and the address and the table break no rule.
-fn is_markable(ss: &[u64], es: &[u64], n: usize, addr: u64) -> bool
-    ensures { λ r. ⌜ r ≡ markable n addr (now (ss .entry)) (now (es .entry)) ⌝ }
+fn is_markable(ss: &[u64], es: &[u64], count: usize, addr: u64) -> bool
+    ensures { λ r. ⌜ r ≡ markable count addr (now (ss .entry)) (now (es .entry)) ⌝ }
 {
-    if n <= ss.len() {
-        if n <= es.len() {
+    if count <= ss.len() {
+        if count <= es.len() {
             if addr % 4 == 0 {
-                return is_table(ss, es, n);
+                return is_table(ss, es, count);
             }
         }
     }
@@ -137,24 +137,26 @@ fn answered(r: Step) -> Marking
 }
 
 // Marks addr in a lent table, which may be any: 3 where it or addr breaks a rule, 4 where it is full.
-pub fn mark(ss: &mut [u64], es: &mut [u64], n: usize, addr: u64) -> Marking
-    ensures { λ r. ⌜ IsMarking (mark-lent n addr (now (ss .entry)) (now (es .entry))) n (now (ss .entry)) (now (es .entry)) (now (ss .exit)) (now (es .exit)) r ⌝ }
+pub fn mark(ss: &mut [u64], es: &mut [u64], count: usize, addr: u64) -> Marking
+    ensures { λ r.
+        ⌜ IsMarking (mark-lent count addr (now (ss .entry)) (now (es .entry))) count (now (ss .entry)) (now (es .entry))
+        (now (ss .exit)) (now (es .exit)) r ⌝ }
 {
-    if is_markable(ss, es, n, addr) {
+    if is_markable(ss, es, count, addr) {
         let room = room_in(ss.len(), es.len());
-        if room < n {
+        if room < count {
             return Marking {
                 number: 4,
-                count: n,
+                count,
                 new: false,
             };
         }
-        let r = add_block_start(ss, es, n, room, addr);
+        let r = add_block_start(ss, es, count, room, addr);
         return answered(r);
     }
     Marking {
         number: 3,
-        count: n,
+        count,
         new: false,
     }
 }
@@ -164,14 +166,16 @@ pub fn mark(ss: &mut [u64], es: &mut [u64], n: usize, addr: u64) -> Marking
 pub extern "C" fn blocks_mark(
     ss: &mut [u64],
     es: &mut [u64],
-    n: usize,
+    len: usize,
     addr: u64,
     count: &mut usize,
     new: &mut bool,
 ) -> u32
-    ensures { λ r. ⌜ IsMarking (mark-lent n addr (now (ss .entry)) (now (es .entry))) n (now (ss .entry)) (now (es .entry)) (now (ss .exit)) (now (es .exit)) (record { number = r; count = now (count .exit); new = now (new .exit) }) ⌝ }
+    ensures { λ r.
+        ⌜ IsMarking (mark-lent len addr (now (ss .entry)) (now (es .entry))) len (now (ss .entry)) (now (es .entry))
+        (now (ss .exit)) (now (es .exit)) (record { number = r; count = now (count .exit); new = now (new .exit) }) ⌝ }
 {
-    let m = mark(ss, es, n, addr);
+    let m = mark(ss, es, len, addr);
     *count = m.count;
     *new = m.new;
     m.number

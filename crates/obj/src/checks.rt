@@ -34,7 +34,10 @@ fn check_rest(
     entry: &[u32],
 ) -> bool
     requires { ⌜ Few (now sections) ⌝ }
-    ensures { λ r. ⌜ r ≡ rules.check-rest (seen (now (sections .entry))) (given (lent [] [] [] (now (functions .entry)) (now (objects .entry)) (now (skips .entry)) (now (entry .entry)))) ⌝ }
+    ensures { λ r.
+        ⌜ r ≡ rules.check-rest (seen (now (sections .entry)))
+        (given
+        (lent [] [] [] (now (functions .entry)) (now (objects .entry)) (now (skips .entry)) (now (entry .entry)))) ⌝ }
 {
     are_symbols(sections, functions, true)
         & are_symbols(sections, objects, false)
@@ -52,7 +55,11 @@ pub fn check(
     skips: &[u32],
     entry: &[u32],
 ) -> u32
-    ensures { λ r. ⌜ r ≡ rules.check (given (lent (now (sections .entry)) (now (bytes .entry)) (now (outcomes .entry)) (now (functions .entry)) (now (objects .entry)) (now (skips .entry)) (now (entry .entry)))) ⌝ }
+    ensures { λ r.
+        ⌜ r ≡ rules.check
+        (given
+        (lent (now (sections .entry)) (now (bytes .entry)) (now (outcomes .entry)) (now (functions .entry))
+        (now (objects .entry)) (now (skips .entry)) (now (entry .entry)))) ⌝ }
 {
     if check_image(sections, bytes) {
         if check_outcomes(sections, outcomes) {

@@ -46,7 +46,9 @@ pub struct Told {
 // Number 2: whether each code word has one outcome.
 pub fn check_outcomes(sections: &[u32], outcomes: &[u32]) -> bool
     requires { ⌜ Few (now sections) ⌝ }
-    ensures { λ r. ⌜ r ≡ rules.check-outcomes (seen (now (sections .entry))) (given (lent (now (sections .entry)) [] (now (outcomes .entry)) [] [] [] [])) ⌝ }
+    ensures { λ r.
+        ⌜ r ≡ rules.check-outcomes (seen (now (sections .entry)))
+        (given (lent (now (sections .entry)) [] (now (outcomes .entry)) [] [] [] [])) ⌝ }
 {
     if outcomes.len() % 6 == 0 {
         let words = code_section(sections).size / 4;
@@ -106,11 +108,15 @@ fn outcome_of(r: Row) -> Outcome
 }
 
 // What the code word at an address does.
-pub fn told_at(outcomes: &[u32], code: Code, k: u64) -> Told
-    requires { ⌜ InCode (now outcomes) code k ⌝ }
-    ensures { λ r. ⌜ ((l : Lent) → l .outcomes ≡ now (outcomes .entry) → IsCode l code → told-for r ≡ images.told-at (image l) k) ⌝ }
+pub fn told_at(outcomes: &[u32], code: Code, key: u64) -> Told
+    requires { ⌜ InCode (now outcomes) code key ⌝ }
+    ensures { λ r.
+        ⌜ ((l : Lent) →
+        l .outcomes ≡ now (outcomes .entry) →
+        IsCode l code →
+        told-for r ≡ images.told-at (image l) key) ⌝ }
 {
-    let a = (k % 0x1_0000_0000) as u32;
+    let a = (key % 0x1_0000_0000) as u32;
     let i = (a - code.base) / 4;
     let r = row_at(outcomes, i as usize * 6);
     Told {

@@ -60,21 +60,24 @@ pub struct Part {
     pub offset: usize,
 }
 
-fn one_less(n: u64) -> u64
-    ensures { λ r. ⌜ r ≡ n - 1 ⌝ }
+fn one_less(number: u64) -> u64
+    ensures { λ r. ⌜ r ≡ number - 1 ⌝ }
 {
-    if n == 0 {
+    if number == 0 {
         return 0;
     }
-    n - 1
+    number - 1
 }
 
 // Whether an address lies inside its own section.
-pub fn is_in_section(sections: &[u32], k: u64) -> bool
+pub fn is_in_section(sections: &[u32], key: u64) -> bool
     requires { ⌜ Few (now sections) ⌝ }
-    ensures { λ r. ⌜ ((l : Lent) → l .sections ≡ now (sections .entry) → r ≡ images.contains (images.section-at (image l) k) (address-of k)) ⌝ }
+    ensures { λ r.
+        ⌜ ((l : Lent) →
+        l .sections ≡ now (sections .entry) →
+        r ≡ images.contains (images.section-at (image l) key) (address-of key)) ⌝ }
 {
-    let i = one_less(k / 0x1_0000_0000);
+    let i = one_less(key / 0x1_0000_0000);
     if 8 <= i {
         return false;
     }
@@ -82,13 +85,18 @@ pub fn is_in_section(sections: &[u32], k: u64) -> bool
     if sections.len() <= at {
         return false;
     }
-    contains(section_at(sections, at), (k % 0x1_0000_0000) as u32)
+    contains(section_at(sections, at), (key % 0x1_0000_0000) as u32)
 }
 
 // The code word at an address; 2^32, which is no word, outside code.
 pub fn word(bytes: &[u8], code: Code, a: u32) -> u64
     requires { ⌜ InBytes (now bytes) code ⌝ }
-    ensures { λ r. ⌜ ((l : Lent) → l .bytes ≡ now (bytes .entry) → IsCode l code → rules.check-image (given l) ≡ true → r ≡ images.word (image l) a) ⌝ }
+    ensures { λ r.
+        ⌜ ((l : Lent) →
+        l .bytes ≡ now (bytes .entry) →
+        IsCode l code →
+        rules.check-image (given l) ≡ true →
+        r ≡ images.word (image l) a) ⌝ }
 {
     if a < code.base {
         return 0x1_0000_0000;
@@ -102,11 +110,11 @@ pub fn word(bytes: &[u8], code: Code, a: u32) -> u64
 }
 
 // The section that an address is of; an empty one of bss where there is none.
-pub fn section_of(sections: &[u32], k: u64) -> Part
+pub fn section_of(sections: &[u32], key: u64) -> Part
     requires { ⌜ Few (now sections) ⌝ }
-    ensures { λ r. ⌜ ((l : Lent) → l .sections ≡ now (sections .entry) → IsPart l k r) ⌝ }
+    ensures { λ r. ⌜ ((l : Lent) → l .sections ≡ now (sections .entry) → IsPart l key r) ⌝ }
 {
-    let mut left = one_less(k / 0x1_0000_0000);
+    let mut left = one_less(key / 0x1_0000_0000);
     let mut at: usize = 0;
     let mut offset: usize = 0;
     while at < sections.len() {

@@ -29,7 +29,8 @@ fn is_skip(sections: &[u32], r: Range) -> bool
 
 fn all_skips(sections: &[u32], skips: &[u32]) -> bool
     requires { ⌜ Few (now sections) × length (now skips) % 2 ≡ 0 ⌝ }
-    ensures { λ r. ⌜ r ≡ rules.all (rules.is-skip (seen (now (sections .entry)))) (rows 2 skip-row (now (skips .entry))) ⌝ }
+    ensures { λ r.
+        ⌜ r ≡ rules.all (rules.is-skip (seen (now (sections .entry)))) (rows 2 skip-row (now (skips .entry))) ⌝ }
 {
     let mut at: usize = 0;
     while at < skips.len() {

@@ -30,36 +30,38 @@ pub fn is_code_address(sections: &[u32], a: u32) -> bool
 }
 
 // Function symbols lie in code, their sizes are multiples of 4.
-fn is_function_symbol(sections: &[u32], s: Symbol) -> bool
+fn is_function_symbol(sections: &[u32], symbol: Symbol) -> bool
     requires { ⌜ Few (now sections) ⌝ }
-    ensures { λ r. ⌜ r ≡ rules.is-function-symbol (seen (now (sections .entry))) (symbol-of s) ⌝ }
+    ensures { λ r. ⌜ r ≡ rules.is-function-symbol (seen (now (sections .entry))) (symbol-of symbol) ⌝ }
 {
-    is_symbol(s) & is_code_address(sections, s.address) & (s.size % 4 == 0)
+    is_symbol(symbol) & is_code_address(sections, symbol.address) & (symbol.size % 4 == 0)
 }
 
 // Object symbols lie inside another section.
-fn is_object_symbol(sections: &[u32], s: Symbol) -> bool
+fn is_object_symbol(sections: &[u32], symbol: Symbol) -> bool
     requires { ⌜ Few (now sections) ⌝ }
-    ensures { λ r. ⌜ r ≡ rules.is-object-symbol (seen (now (sections .entry))) (symbol-of s) ⌝ }
+    ensures { λ r. ⌜ r ≡ rules.is-object-symbol (seen (now (sections .entry))) (symbol-of symbol) ⌝ }
 {
-    let k = locate(sections, s.address);
-    is_symbol(s) & (k != 0) & (k / 0x1_0000_0000 != code_section(sections).number)
+    let k = locate(sections, symbol.address);
+    is_symbol(symbol) & (k != 0) & (k / 0x1_0000_0000 != code_section(sections).number)
 }
 
 // A symbol of a list of functions, or of objects.
-fn is_symbol_in(sections: &[u32], function: bool, s: Symbol) -> bool
+fn is_symbol_in(sections: &[u32], function: bool, symbol: Symbol) -> bool
     requires { ⌜ Few (now sections) ⌝ }
-    ensures { λ r. ⌜ r ≡ symbol-holds (seen (now (sections .entry))) function (symbol-of s) ⌝ }
+    ensures { λ r. ⌜ r ≡ symbol-holds (seen (now (sections .entry))) function (symbol-of symbol) ⌝ }
 {
     if function {
-        return is_function_symbol(sections, s);
+        return is_function_symbol(sections, symbol);
     }
-    is_object_symbol(sections, s)
+    is_object_symbol(sections, symbol)
 }
 
 fn all_symbols(sections: &[u32], symbols: &[u32], function: bool) -> bool
     requires { ⌜ Few (now sections) × length (now symbols) % 3 ≡ 0 ⌝ }
-    ensures { λ r. ⌜ r ≡ rules.all (symbol-holds (seen (now (sections .entry))) function) (rows 3 symbol-row (now (symbols .entry))) ⌝ }
+    ensures { λ r.
+        ⌜ r ≡ rules.all (symbol-holds (seen (now (sections .entry))) function)
+        (rows 3 symbol-row (now (symbols .entry))) ⌝ }
 {
     let mut at: usize = 0;
     while at < symbols.len() {
@@ -75,7 +77,9 @@ fn all_symbols(sections: &[u32], symbols: &[u32], function: bool) -> bool
 // At most 1,024 of each.
 pub fn are_symbols(sections: &[u32], symbols: &[u32], function: bool) -> bool
     requires { ⌜ Few (now sections) ⌝ }
-    ensures { λ r. ⌜ r ≡ rules.are-symbols (seen (now (sections .entry))) (symbol-holds (seen (now (sections .entry))) function) (rows 3 symbol-row (now (symbols .entry))) ⌝ }
+    ensures { λ r.
+        ⌜ r ≡ rules.are-symbols (seen (now (sections .entry))) (symbol-holds (seen (now (sections .entry))) function)
+        (rows 3 symbol-row (now (symbols .entry))) ⌝ }
 {
     if symbols.len() % 3 == 0 {
         return (symbols.len() / 3 <= 1024)
@@ -86,19 +90,24 @@ pub fn are_symbols(sections: &[u32], symbols: &[u32], function: bool) -> bool
 }
 
 // The last function symbol below an address of code, if its size covers the address; 0 for none.
-pub fn symbol_over(functions: &[u32], code: Code, t: u64) -> u64
+pub fn symbol_over(functions: &[u32], code: Code, target: u64) -> u64
     requires { ⌜ (length (now functions) % 3 ≡ 0) × Rising self (addresses (now functions)) ⌝ }
-    ensures { λ r. ⌜ ((l : Lent) (e : Around) → l .functions ≡ now (functions .entry) → IsCode l code → e .image ≡ image l → r ≡ symbol-over e t) ⌝ }
+    ensures { λ r.
+        ⌜ ((l : Lent) (e : Around) →
+        l .functions ≡ now (functions .entry) →
+        IsCode l code →
+        e .image ≡ image l →
+        r ≡ symbol-over e target) ⌝ }
 {
-    let low = t % 0x1_0000_0000;
-    if t / 0x1_0000_0000 == code.number {
+    let low = target % 0x1_0000_0000;
+    if target / 0x1_0000_0000 == code.number {
         let i = count_below(functions, low as u32);
         if i == 0 {
             return 0;
         }
         let s = symbol_at(functions, (i - 1) * 3);
         if low < wide(s.address) + wide(s.size) {
-            return t - low + wide(s.address);
+            return target - low + wide(s.address);
         }
         return 0;
     }

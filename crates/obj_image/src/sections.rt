@@ -25,7 +25,9 @@ pub fn wide(x: u32) -> u64
 // The section whose row begins at an index: the next one of the rows from there.
 pub fn section_at(sections: &[u32], at: usize) -> Section
     requires { ⌜ at + 4 ≤ length (now sections) ⌝ }
-    ensures { λ r. ⌜ rows 4 section-row (drop at (now (sections .entry))) ≡ row-of r ∷ rows 4 section-row (drop (at + 4) (now (sections .entry))) ⌝ }
+    ensures { λ r.
+        ⌜ rows 4 section-row (drop at (now (sections .entry))) ≡ row-of r ∷ rows 4 section-row
+        (drop (at + 4) (now (sections .entry))) ⌝ }
 {
     Section {
         kind: sections[at],
@@ -36,16 +38,16 @@ pub fn section_at(sections: &[u32], at: usize) -> Section
 }
 
 // The first address past a section.
-fn past(s: Section) -> u64
-    ensures { λ r. ⌜ r ≡ s .base + s .size ⌝ }
+fn past(section: Section) -> u64
+    ensures { λ r. ⌜ r ≡ section .base + section .size ⌝ }
 {
-    wide(s.base) + wide(s.size)
+    wide(section.base) + wide(section.size)
 }
 
-pub fn contains(s: Section, a: u32) -> bool
-    ensures { λ r. ⌜ r ≡ images.contains (part-of s) a ⌝ }
+pub fn contains(section: Section, a: u32) -> bool
+    ensures { λ r. ⌜ r ≡ images.contains (part-of section) a ⌝ }
 {
-    (s.base <= a) & (wide(a) < past(s))
+    (section.base <= a) & (wide(a) < past(section))
 }
 
 // 1 to 8 sections.
@@ -57,45 +59,45 @@ fn few_sections(sections: &[u32]) -> bool
     (1 <= count) & (count <= 8)
 }
 
-fn is_kind(s: Section) -> bool
-    ensures { λ r. ⌜ r ≡ rules.is-kind (row-of s) ⌝ }
+fn is_kind(section: Section) -> bool
+    ensures { λ r. ⌜ r ≡ rules.is-kind (row-of section) ⌝ }
 {
-    (1 <= s.kind) & (s.kind <= 4)
+    (1 <= section.kind) & (section.kind <= 4)
 }
 
 // Base and size are multiples of 4, base at least 256, size at least 4, base + size at most 0xF0000000.
-fn is_placed(s: Section) -> bool
-    ensures { λ r. ⌜ r ≡ rules.is-placed (row-of s) ⌝ }
+fn is_placed(section: Section) -> bool
+    ensures { λ r. ⌜ r ≡ rules.is-placed (row-of section) ⌝ }
 {
-    (s.base % 4 == 0)
-        & (s.size % 4 == 0)
-        & (256 <= s.base)
-        & (4 <= s.size)
-        & (past(s) <= 0xF000_0000)
+    (section.base % 4 == 0)
+        & (section.size % 4 == 0)
+        & (256 <= section.base)
+        & (4 <= section.size)
+        & (past(section) <= 0xF000_0000)
 }
 
 // Code is at most 262,144 bytes.
-fn code_fits(s: Section) -> bool
-    ensures { λ r. ⌜ r ≡ rules.code-fits (row-of s) ⌝ }
+fn code_fits(section: Section) -> bool
+    ensures { λ r. ⌜ r ≡ rules.code-fits (row-of section) ⌝ }
 {
-    (s.kind != 1) | (s.size <= 262144)
+    (section.kind != 1) | (section.size <= 262144)
 }
 
 // Bss has no bytes; every other section has all of its bytes.
-fn has_bytes(s: Section) -> bool
-    ensures { λ r. ⌜ r ≡ rules.has-bytes (row-of s) ⌝ }
+fn has_bytes(section: Section) -> bool
+    ensures { λ r. ⌜ r ≡ rules.has-bytes (row-of section) ⌝ }
 {
-    if s.kind == 4 {
-        return s.given == 0;
+    if section.kind == 4 {
+        return section.given == 0;
     }
-    s.given == s.size
+    section.given == section.size
 }
 
 // What is asked of each section alone.
-fn is_section(s: Section) -> bool
-    ensures { λ r. ⌜ r ≡ section-holds (row-of s) ⌝ }
+fn is_section(section: Section) -> bool
+    ensures { λ r. ⌜ r ≡ section-holds (row-of section) ⌝ }
 {
-    is_kind(s) & is_placed(s) & code_fits(s) & has_bytes(s)
+    is_kind(section) & is_placed(section) & code_fits(section) & has_bytes(section)
 }
 
 fn are_sections(sections: &[u32]) -> bool
@@ -114,10 +116,10 @@ fn are_sections(sections: &[u32]) -> bool
 }
 
 // 1 for a section of code, else 0.
-fn code_count(s: Section) -> usize
-    ensures { λ r. ⌜ (r ≡ rules.count-codes (row-of s ∷ [])) × (r ≤ 1) ⌝ }
+fn code_count(section: Section) -> usize
+    ensures { λ r. ⌜ (r ≡ rules.count-codes (row-of section ∷ [])) × (r ≤ 1) ⌝ }
 {
-    if s.kind == 1 {
+    if section.kind == 1 {
         return 1;
     }
     0
@@ -145,20 +147,21 @@ fn one_code(sections: &[u32]) -> bool
     count_codes(sections) == 1
 }
 
-fn are_apart(s: Section, t: Section) -> bool
-    ensures { λ r. ⌜ r ≡ rules.are-apart (row-of s) (row-of t) ⌝ }
+fn are_apart(section: Section, other: Section) -> bool
+    ensures { λ r. ⌜ r ≡ rules.are-apart (row-of section) (row-of other) ⌝ }
 {
-    (past(s) <= wide(t.base)) | (past(t) <= wide(s.base))
+    (past(section) <= wide(other.base)) | (past(other) <= wide(section.base))
 }
 
 // Whether a section overlaps none of those whose rows begin at an index or later.
-fn is_apart(sections: &[u32], from: usize, s: Section) -> bool
+fn is_apart(sections: &[u32], from: usize, section: Section) -> bool
     requires { ⌜ (length (now sections) % 4 ≡ 0) × (from % 4 ≡ 0) × (from ≤ length (now sections)) ⌝ }
-    ensures { λ r. ⌜ r ≡ rules.all (rules.are-apart (row-of s)) (rows 4 section-row (drop from (now (sections .entry)))) ⌝ }
+    ensures { λ r.
+        ⌜ r ≡ rules.all (rules.are-apart (row-of section)) (rows 4 section-row (drop from (now (sections .entry)))) ⌝ }
 {
     let mut at = from;
     while at < sections.len() {
-        if are_apart(s, section_at(sections, at)) {
+        if are_apart(section, section_at(sections, at)) {
             at += 4;
         } else {
             return false;
@@ -201,14 +204,22 @@ fn count_bytes(sections: &[u32]) -> u64
 // The bytes are those of the sections.
 fn bytes_add_up(sections: &[u32], bytes: &[u8]) -> bool
     requires { ⌜ Few (now sections) ⌝ }
-    ensures { λ r. ⌜ ((l : Lent) → l .sections ≡ now (sections .entry) → l .bytes ≡ now (bytes .entry) → r ≡ rules.bytes-add-up (given l)) ⌝ }
+    ensures { λ r.
+        ⌜ ((l : Lent) →
+        l .sections ≡ now (sections .entry) →
+        l .bytes ≡ now (bytes .entry) →
+        r ≡ rules.bytes-add-up (given l)) ⌝ }
 {
     bytes.len() == count_bytes(sections) as usize
 }
 
 // Number 1: whether the image breaks no rule.
 pub fn check_image(sections: &[u32], bytes: &[u8]) -> bool
-    ensures { λ r. ⌜ ((l : Lent) → l .sections ≡ now (sections .entry) → l .bytes ≡ now (bytes .entry) → r ≡ rules.check-image (given l)) ⌝ }
+    ensures { λ r.
+        ⌜ ((l : Lent) →
+        l .sections ≡ now (sections .entry) →
+        l .bytes ≡ now (bytes .entry) →
+        r ≡ rules.check-image (given l)) ⌝ }
 {
     if sections.len() % 4 == 0 {
         if few_sections(sections) {

@@ -22,7 +22,9 @@ pub struct Row {
 // The row that begins at an index: the next one of the rows from there.
 pub fn row_at(outcomes: &[u32], at: usize) -> Row
     requires { ⌜ at + 6 ≤ length (now outcomes) ⌝ }
-    ensures { λ r. ⌜ rows 6 outcome-row (drop at (now (outcomes .entry))) ≡ row-of r ∷ rows 6 outcome-row (drop (at + 6) (now (outcomes .entry))) ⌝ }
+    ensures { λ r.
+        ⌜ rows 6 outcome-row (drop at (now (outcomes .entry))) ≡ row-of r ∷ rows 6 outcome-row
+        (drop (at + 6) (now (outcomes .entry))) ⌝ }
 {
     Row {
         kind: outcomes[at],
@@ -91,7 +93,9 @@ fn is_outcome(sections: &[u32], r: Row) -> bool
 
 pub fn are_outcomes(sections: &[u32], outcomes: &[u32]) -> bool
     requires { ⌜ Few (now sections) × length (now outcomes) % 6 ≡ 0 ⌝ }
-    ensures { λ r. ⌜ r ≡ rules.all (rules.is-outcome (seen (now (sections .entry)))) (rows 6 outcome-row (now (outcomes .entry))) ⌝ }
+    ensures { λ r.
+        ⌜ r ≡ rules.all (rules.is-outcome (seen (now (sections .entry))))
+        (rows 6 outcome-row (now (outcomes .entry))) ⌝ }
 {
     let mut at: usize = 0;
     while at < outcomes.len() {

@@ -18,7 +18,9 @@ pub struct Range {
 // The range whose row begins at an index: the next one of the rows from there.
 pub fn range_at(skips: &[u32], at: usize) -> Range
     requires { ⌜ at + 2 ≤ length (now skips) ⌝ }
-    ensures { λ r. ⌜ rows 2 skip-row (drop at (now (skips .entry))) ≡ range-of r ∷ rows 2 skip-row (drop (at + 2) (now (skips .entry))) ⌝ }
+    ensures { λ r.
+        ⌜ rows 2 skip-row (drop at (now (skips .entry))) ≡ range-of r ∷ rows 2 skip-row
+        (drop (at + 2) (now (skips .entry))) ⌝ }
 {
     Range {
         first: skips[at],
@@ -26,10 +28,10 @@ pub fn range_at(skips: &[u32], at: usize) -> Range
     }
 }
 
-fn comes_before(r: Range, s: Range) -> bool
-    ensures { λ t. ⌜ t ≡ rules.comes-before (seen []) (range-of r) (range-of s) ⌝ }
+fn comes_before(r: Range, range: Range) -> bool
+    ensures { λ t. ⌜ t ≡ rules.comes-before (seen []) (range-of r) (range-of range) ⌝ }
 {
-    r.past <= s.first
+    r.past <= range.first
 }
 
 // Ascending; they may touch but not overlap.

@@ -21,7 +21,9 @@ pub struct Symbol {
 // The symbol whose row begins at an index: the next one of the rows from there.
 pub fn symbol_at(symbols: &[u32], at: usize) -> Symbol
     requires { ⌜ at + 3 ≤ length (now symbols) ⌝ }
-    ensures { λ r. ⌜ rows 3 symbol-row (drop at (now (symbols .entry))) ≡ symbol-of r ∷ rows 3 symbol-row (drop (at + 3) (now (symbols .entry))) ⌝ }
+    ensures { λ r.
+        ⌜ rows 3 symbol-row (drop at (now (symbols .entry))) ≡ symbol-of r ∷ rows 3 symbol-row
+        (drop (at + 3) (now (symbols .entry))) ⌝ }
 {
     Symbol {
         address: symbols[at],
@@ -31,23 +33,25 @@ pub fn symbol_at(symbols: &[u32], at: usize) -> Symbol
 }
 
 // Sizes are at most 262,144; a mark says if the size is known.
-pub fn is_symbol(s: Symbol) -> bool
-    ensures { λ r. ⌜ r ≡ rules.is-symbol (seen []) (symbol-of s) ⌝ }
+pub fn is_symbol(symbol: Symbol) -> bool
+    ensures { λ r. ⌜ r ≡ rules.is-symbol (seen []) (symbol-of symbol) ⌝ }
 {
-    (s.address % 4 == 0) & (s.size <= 262144) & (s.known <= 1)
+    (symbol.address % 4 == 0) & (symbol.size <= 262144) & (symbol.known <= 1)
 }
 
-fn is_below(sections: &[u32], s: Symbol, t: Symbol) -> bool
+fn is_below(sections: &[u32], symbol: Symbol, other: Symbol) -> bool
     requires { ⌜ Few (now sections) ⌝ }
-    ensures { λ r. ⌜ r ≡ rules.is-below (seen (now (sections .entry))) (symbol-of s) (symbol-of t) ⌝ }
+    ensures { λ r. ⌜ r ≡ rules.is-below (seen (now (sections .entry))) (symbol-of symbol) (symbol-of other) ⌝ }
 {
-    locate(sections, s.address) < locate(sections, t.address)
+    locate(sections, symbol.address) < locate(sections, other.address)
 }
 
 // Addresses ascend strictly, section first.
 pub fn symbols_ascend(sections: &[u32], symbols: &[u32]) -> bool
     requires { ⌜ Few (now sections) × length (now symbols) % 3 ≡ 0 ⌝ }
-    ensures { λ r. ⌜ r ≡ rules.chained (rules.is-below (seen (now (sections .entry)))) (rows 3 symbol-row (now (symbols .entry))) ⌝ }
+    ensures { λ r.
+        ⌜ r ≡ rules.chained (rules.is-below (seen (now (sections .entry))))
+        (rows 3 symbol-row (now (symbols .entry))) ⌝ }
 {
     let mut at: usize = 0;
     let mut next: usize = 3;
@@ -63,16 +67,18 @@ pub fn symbols_ascend(sections: &[u32], symbols: &[u32]) -> bool
 }
 
 // How many object symbols have keys below a key, by halving.
-fn keys_below(sections: &[u32], objects: &[u32], k: u64) -> usize
+fn keys_below(sections: &[u32], objects: &[u32], key: u64) -> usize
     requires few { ⌜ Few (now sections) ⌝ }
     requires objects { ⌜ KeysAscend (now sections) (now objects) ⌝ }
-    ensures { λ r. ⌜ (r ≡ rank self k (keys (now (sections .entry)) (now (objects .entry)))) × (r * 3 ≤ length (now (objects .entry))) ⌝ }
+    ensures { λ r.
+        ⌜ (r ≡ rank self key (keys (now (sections .entry)) (now (objects .entry)))) ×
+        (r * 3 ≤ length (now (objects .entry))) ⌝ }
 {
     let mut lo: usize = 0;
     let mut hi = objects.len() / 3;
     while lo < hi {
         let mid = lo + (hi - lo) / 2;
-        if locate(sections, objects[mid * 3]) < k {
+        if locate(sections, objects[mid * 3]) < key {
             lo = mid + 1;
         } else {
             hi = mid;
@@ -101,7 +107,8 @@ pub fn known_size(sections: &[u32], objects: &[u32], a: u32) -> u32
 // How many function symbols lie below an address, by halving.
 pub fn count_below(functions: &[u32], a: u32) -> usize
     requires { ⌜ (length (now functions) % 3 ≡ 0) × Rising self (addresses (now functions)) ⌝ }
-    ensures { λ r. ⌜ (r ≡ rank self a (addresses (now (functions .entry)))) × (r * 3 ≤ length (now (functions .entry))) ⌝ }
+    ensures { λ r.
+        ⌜ (r ≡ rank self a (addresses (now (functions .entry)))) × (r * 3 ≤ length (now (functions .entry))) ⌝ }
 {
     let mut lo: usize = 0;
     let mut hi = functions.len() / 3;

@@ -14,16 +14,16 @@ use Rattle.rules.specs.Step as steps
 use Rattle.rules.specs.Analyze as analysis
 use Rattle.rules.specs.OneFunction as rules
 use Rattle.rules.proofs.Faults.{Met, analyze-met}
-use Rattle.lists.specs.View as lists
-use Rattle.lists.specs.View.{view, Fit}
-use Rattle.lists.specs.declared.Small.{Small}
+use Rattle.function_slices.specs.View as lists
+use Rattle.function_slices.specs.View.{view, Fit}
+use Rattle.function_slices.specs.declared.Small.{Small}
 use Rattle.analyze.specs.Analysis.{answered, IsAnalyzed}
 use Rattle.analyze.specs.declared.Analyzed.{Analyzed}
 use Rattle.stored.specs.Laid.{laid, Stored}
 use Rattle.runs.specs.Runs.{padded}
 use Rattle.one_function.specs.Results.{function, no-function, function-of, kept-in, Leaves, Answers, Finished, Told}
 use Rattle.one_function.specs.declared.Function.{Function}
-use Rattle.one_function.proofs.Counts.{blocks-count, ways-count, references-count, tables-count, possible-count}
+use Rattle.one_function.proofs.Counts.{blocks-count, branches-count, references-count, tables-count, possible-count}
 
 drop-same : (z m n : ℕ) → drop m (replicate n z) ≡ replicate (n - m) z
 drop-same z zero n = let e : n - 0 ≡ n = omega arith in ap (λ (m : ℕ). replicate m z) (sym e)
@@ -33,7 +33,7 @@ drop-same z (suc m) (suc n) = let e : suc n - suc m ≡ n - m = omega arith in d
 -- what the code makes of the counts
 abbrev pub by-counts : Small → Bool → Function
 by-counts s found =
-    function 0 found (s .blocks) (s .ways) (s .references) (s .tables) (s .possible) (s .prologue) (s .epilogue) (s .conditional) (s .rfi) (s .load)
+    function 0 found (s .blocks) (s .branches) (s .«function_references») (s .«jump_table_references») (s .«possible_blocks») (s .prologue) (s .epilogue) (s .conditional) (s .rfi) (s .load)
 
 module _ (k v : List ℕ) (s : Small) (found : Bool) (before zeros : List ℕ) (cleared : zeros ≡ replicate (length before) 0) where
   abbrev analyzed : analysis.Analyzed
@@ -56,7 +56,7 @@ module _ (k v : List ℕ) (s : Small) (found : Bool) (before zeros : List ℕ) (
 
   counted : Fit k v s → by-counts s found ≡ function-of analyzed
   unfolding view
-  counted f = by-five _ _ _ _ _ _ _ _ _ _ (sym (blocks-count k v s f)) (sym (ways-count k v s f)) (sym (references-count k v s f)) (sym (tables-count k v s f)) (sym (possible-count k v s f))
+  counted f = by-five _ _ _ _ _ _ _ _ _ _ (sym (blocks-count k v s f)) (sym (branches-count k v s f)) (sym (references-count k v s f)) (sym (tables-count k v s f)) (sym (possible-count k v s f))
 
   long : length zeros ≡ length before
   long = ap length cleared ∙ length-replicate (length before) 0

@@ -6,7 +6,7 @@ use Prim.Native.Nat.{ℕ, _/_}
 use lib.Dec.{leb}
 use lib.ListN.{length, replicate}
 use Rattle.rules.specs.Choice.{if, Answer, ok, fault, _>>=_}
-use Rattle.rules.specs.Slices.{count-ways}
+use Rattle.rules.specs.Slices.{count-branches}
 use Rattle.rules.specs.Analyze.{Analyzed}
 use Rattle.rules.specs.Given.{Given}
 use Rattle.rules.specs.OneFunction.{numbers, stored, known-entry, check-one}
@@ -18,7 +18,7 @@ use Rattle.one_function.specs.declared.Function.{Function}
 -- all fields
 abbrev pub function : ℕ → Bool → ℕ → ℕ → ℕ → ℕ → ℕ → ℕ → ℕ → Bool → Bool → Bool → Function
 function n f b w r t p pro epi c i l =
-    record { number = n; found = f; blocks = b; ways = w; references = r; tables = t; possible = p; prologue = pro; epilogue = epi; conditional = c; rfi = i; load = l }
+    record { number = n; found = f; blocks = b; branches = w; «function_references» = r; «jump_table_references» = t; «possible_blocks» = p; prologue = pro; epilogue = epi; conditional = c; rfi = i; load = l }
 
 -- the number of a refusal or a fault, and nothing else
 abbrev pub no-function : ℕ → Function
@@ -27,8 +27,8 @@ no-function n = function n false 0 0 0 0 0 0 0 false false false
 -- a function's lists by their lengths, and what is no list
 abbrev pub function-of : Analyzed → Function
 function-of x =
-    function 0 (x .found) (length (x .slices .blocks)) (count-ways (x .slices .ways)) (length (x .slices .references))
-    (length (x .slices .tables)) (length (x .slices .possible)) (x .slices .prologue) (x .slices .epilogue)
+    function 0 (x .found) (length (x .slices .blocks)) (count-branches (x .slices .branches)) (length (x .slices .function-references))
+    (length (x .slices .jump-table-references)) (length (x .slices .possible-blocks)) (x .slices .prologue) (x .slices .epilogue)
     (x .slices .conditional-blr) (x .slices .rfi) (x .slices .r1-load)
 
 -- an analysis whose lists are stored

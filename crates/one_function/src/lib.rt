@@ -14,13 +14,13 @@ ghost use Rattle.rules.specs.Analyze.{analyze};
 ghost use Rattle.rules.specs.OneFunction as rules;
 ghost use Rattle.obj.specs.Lent.{lent, given, seen};
 ghost use Rattle.obj.specs.Sections.{Few};
-ghost use Rattle.lists.specs.View.{view, Fit};
+ghost use Rattle.function_slices.specs.View.{view, Fit};
 ghost use Rattle.callback.specs.Lends.{LendsAll, Of};
 ghost use Rattle.analyze.specs.Analysis.{answered};
 ghost use Rattle.one_function.specs.Results.{no-function, kept-in, Finished, Told, Checked};
 ghost use Rattle.known_rows.specs.Rows.{are-known-list, known-blocks};
 ghost use Rattle.known.specs.Table.{KNOWN};
-use lists::places;
+use function_slices::places;
 
 // 0, or why there is no map of it; whether there is a function; how many elements each list has; and what is no list. A block's
 // start counts once, a way on once for each target.
@@ -28,10 +28,10 @@ pub struct Function {
     pub number: u32,
     pub found: bool,
     pub blocks: usize,
-    pub ways: usize,
-    pub references: usize,
-    pub tables: usize,
-    pub possible: usize,
+    pub branches: usize,
+    pub function_references: usize,
+    pub jump_table_references: usize,
+    pub possible_blocks: usize,
     pub prologue: u64,
     pub epilogue: u64,
     pub conditional: bool,
@@ -46,10 +46,10 @@ fn no_function(number: u32) -> Function
         number,
         found: false,
         blocks: 0,
-        ways: 0,
-        references: 0,
-        tables: 0,
-        possible: 0,
+        branches: 0,
+        function_references: 0,
+        jump_table_references: 0,
+        possible_blocks: 0,
         prologue: 0,
         epilogue: 0,
         conditional: false,
@@ -60,33 +60,37 @@ fn no_function(number: u32) -> Function
 
 // An analysis is stored, if the lent list is long enough (4).
 fn finish(
-    k: &[u64; places::KEYS],
-    v: &[u64; places::VALUES],
-    s: lists::Small,
+    keys: &[u64; places::KEYS],
+    values: &[u64; places::VALUES],
+    slices: function_slices::Small,
     found: bool,
     list: &mut [u64],
 ) -> Function
-    requires { ⌜ (s .fault ≡ 0 → Fit (now k) (now v) s) ⌝ }
-    ensures { λ r. ⌜ Finished (kept-in (length (now (list .entry))) (answered (now (k .entry)) (now (v .entry)) (record { small = s; found = found }))) (now (list .entry)) (now (list .exit)) r ⌝ }
+    requires { ⌜ (slices .fault ≡ 0 → Fit (now keys) (now values) slices) ⌝ }
+    ensures { λ r.
+        ⌜ Finished
+        (kept-in (length (now (list .entry)))
+        (answered (now (keys .entry)) (now (values .entry)) (record { small = slices; found = found })))
+        (now (list .entry)) (now (list .exit)) r ⌝ }
 {
     stored::clear(list);
-    if s.fault != 0 {
-        return no_function(s.fault);
+    if slices.fault != 0 {
+        return no_function(slices.fault);
     }
-    if stored::store(k, v, s, list, 0) {
+    if stored::store(keys, values, slices, list, 0) {
         return Function {
             number: 0,
             found,
-            blocks: s.blocks,
-            ways: s.ways,
-            references: s.references,
-            tables: s.tables,
-            possible: s.possible,
-            prologue: s.prologue,
-            epilogue: s.epilogue,
-            conditional: s.conditional,
-            rfi: s.rfi,
-            load: s.load,
+            blocks: slices.blocks,
+            branches: slices.branches,
+            function_references: slices.function_references,
+            jump_table_references: slices.jump_table_references,
+            possible_blocks: slices.possible_blocks,
+            prologue: slices.prologue,
+            epilogue: slices.epilogue,
+            conditional: slices.conditional,
+            rfi: slices.rfi,
+            load: slices.load,
         };
     }
     no_function(4)
@@ -104,11 +108,17 @@ fn walked(
     list: &mut [u64],
 ) -> Function
     requires { ⌜ LendsAll (now sections) (now bytes) (now outcomes) (now functions) (now objects) (now known) a ⌝ }
-    ensures { λ r. ⌜ ((e : steps.Around) (o : Of (now (sections .entry)) (now (bytes .entry)) (now (functions .entry)) (now (objects .entry)) (now (known .entry)) a e) → o .lent .outcomes ≡ now (outcomes .entry) → Finished (kept-in (length (now (list .entry))) (analyze e (a .start) (with-only []))) (now (list .entry)) (now (list .exit)) r) ⌝ }
+    ensures { λ r.
+        ⌜ ((e : steps.Around)
+        (o : Of (now (sections .entry)) (now (bytes .entry)) (now (functions .entry)) (now (objects .entry))
+        (now (known .entry)) a e) →
+        o .lent .outcomes ≡ now (outcomes .entry) →
+        Finished (kept-in (length (now (list .entry))) (analyze e (a .start) (with-only []))) (now (list .entry))
+        (now (list .exit)) r) ⌝ }
 {
     let mut k: [u64; places::KEYS] = [0; places::KEYS];
     let mut v: [u64; places::VALUES] = [0; places::VALUES];
-    let s = lists::empty(&k, &v);
+    let s = function_slices::empty(&k, &v);
     let start = a.start;
     let r = analyze::analyze(
         sections,
@@ -168,7 +178,12 @@ fn check_walk(
     table: &mut [u64],
 ) -> u32
     requires { ⌜ length (now table) ≡ KNOWN ⌝ }
-    ensures { λ r. ⌜ Checked (given (lent (now (sections .entry)) (now (bytes .entry)) (now (outcomes .entry)) (now (functions .entry)) (now (objects .entry)) (now (skips .entry)) (now (entry .entry)))) (now (known .entry)) start end (now (table .exit)) r ⌝ }
+    ensures { λ r.
+        ⌜ Checked
+        (given
+        (lent (now (sections .entry)) (now (bytes .entry)) (now (outcomes .entry)) (now (functions .entry))
+        (now (objects .entry)) (now (skips .entry)) (now (entry .entry))))
+        (now (known .entry)) start end (now (table .exit)) r ⌝ }
 {
     let n = obj::checks::check(sections, bytes, outcomes, functions, objects, skips, entry);
     if n != 0 {
@@ -196,7 +211,15 @@ pub fn walk_function(
     end: u64,
     list: &mut [u64],
 ) -> Function
-    ensures { λ r. ⌜ Told (rules.walk-function (given (lent (now (sections .entry)) (now (bytes .entry)) (now (outcomes .entry)) (now (functions .entry)) (now (objects .entry)) (now (skips .entry)) (now (entry .entry)))) (are-known-list (now (known .entry))) (known-blocks (now (known .entry))) start end (length (now (list .entry)))) (now (list .entry)) (now (list .exit)) r ⌝ }
+    ensures { λ r.
+        ⌜ Told
+        (rules.walk-function
+        (given
+        (lent (now (sections .entry)) (now (bytes .entry)) (now (outcomes .entry)) (now (functions .entry))
+        (now (objects .entry)) (now (skips .entry)) (now (entry .entry))))
+        (are-known-list (now (known .entry))) (known-blocks (now (known .entry))) start end
+        (length (now (list .entry))))
+        (now (list .entry)) (now (list .exit)) r ⌝ }
 {
     let mut table: [u64; known::KNOWN] = [0; known::KNOWN];
     let n = check_walk(

@@ -5,13 +5,13 @@ ghost use lib.ListN.{length, take};
 ghost use Rattle.rules.specs.Ordered.{self, rank, Rising};
 ghost use Rattle.ordered.specs.Part.{Inserted, Replaced, Removed, IsFound, IsNearest, IsInserted, IsRemoved};
 
-// How many of the first n elements stand before the first that is key or more, by halving.
-pub fn rank_in(xs: &[u64], n: usize, key: u64) -> usize
-    requires { ⌜ (n ≤ length (now xs)) × Rising self (take n (now xs)) ⌝ }
-    ensures { λ r. ⌜ r ≡ rank self key (take n (now (xs .entry))) ⌝ }
+// How many of the first `count` elements stand before the first that is key or more, by halving.
+pub fn rank_in(xs: &[u64], count: usize, key: u64) -> usize
+    requires { ⌜ (count ≤ length (now xs)) × Rising self (take count (now xs)) ⌝ }
+    ensures { λ r. ⌜ r ≡ rank self key (take count (now (xs .entry))) ⌝ }
 {
     let mut lo: usize = 0;
-    let mut hi = n;
+    let mut hi = count;
     while lo < hi {
         let mid = lo + (hi - lo) / 2;
         if xs[mid] < key {
@@ -29,12 +29,12 @@ pub struct Found {
     pub hit: bool,
 }
 
-pub fn find(xs: &[u64], n: usize, key: u64) -> Found
-    requires { ⌜ (n ≤ length (now xs)) × Rising self (take n (now xs)) ⌝ }
-    ensures { λ r. ⌜ IsFound (take n (now (xs .entry))) key r ⌝ }
+pub fn find(xs: &[u64], count: usize, key: u64) -> Found
+    requires { ⌜ (count ≤ length (now xs)) × Rising self (take count (now xs)) ⌝ }
+    ensures { λ r. ⌜ IsFound (take count (now (xs .entry))) key r ⌝ }
 {
-    let i = rank_in(xs, n, key);
-    if i < n {
+    let i = rank_in(xs, count, key);
+    if i < count {
         Found {
             at: i,
             hit: xs[i] == key,
@@ -50,11 +50,11 @@ pub struct Nearest {
     pub at: usize,
 }
 
-pub fn lower(xs: &[u64], n: usize, key: u64) -> Nearest
-    requires { ⌜ (n ≤ length (now xs)) × Rising self (take n (now xs)) ⌝ }
-    ensures { λ r. ⌜ IsNearest (take n (now (xs .entry))) key r ⌝ }
+pub fn lower(xs: &[u64], count: usize, key: u64) -> Nearest
+    requires { ⌜ (count ≤ length (now xs)) × Rising self (take count (now xs)) ⌝ }
+    ensures { λ r. ⌜ IsNearest (take count (now (xs .entry))) key r ⌝ }
 {
-    let i = rank_in(xs, n, key);
+    let i = rank_in(xs, count, key);
     if i == 0 {
         return Nearest { some: false, at: 0 };
     }
@@ -64,34 +64,34 @@ pub fn lower(xs: &[u64], n: usize, key: u64) -> Nearest
     }
 }
 
-// Puts v in at i among the first n elements, moving those from i on up by one.
-pub fn insert_at(xs: &mut [u64], n: usize, i: usize, v: u64)
-    requires { ⌜ (i ≤ n) × (n < length (now xs)) ⌝ }
-    ensures { λ _. ⌜ Inserted (now (xs .entry)) (now (xs .exit)) n i v ⌝ }
+// Puts `value` in at i among the first `count` elements, moving those from i on up by one.
+pub fn insert_at(xs: &mut [u64], count: usize, i: usize, value: u64)
+    requires { ⌜ (i ≤ count) × (count < length (now xs)) ⌝ }
+    ensures { λ _. ⌜ Inserted (now (xs .entry)) (now (xs .exit)) count i value ⌝ }
 {
-    let mut k = n;
+    let mut k = count;
     while i < k {
         let j = k - 1;
         xs[k] = xs[j];
         k = j;
     }
-    xs[k] = v;
+    xs[k] = value;
 }
 
-// Stores v at i among the first n elements.
-pub fn replace_at(xs: &mut [u64], n: usize, i: usize, v: u64)
-    requires { ⌜ (i < n) × (n ≤ length (now xs)) ⌝ }
-    ensures { λ _. ⌜ Replaced (now (xs .entry)) (now (xs .exit)) n i v ⌝ }
+// Stores `value` at i among the first `count` elements.
+pub fn replace_at(xs: &mut [u64], count: usize, i: usize, value: u64)
+    requires { ⌜ (i < count) × (count ≤ length (now xs)) ⌝ }
+    ensures { λ _. ⌜ Replaced (now (xs .entry)) (now (xs .exit)) count i value ⌝ }
 {
-    xs[i] = v;
+    xs[i] = value;
 }
 
-// Takes out the element at i among the first n, moving those after it down by one, with 0 after the last; how many are left.
-pub fn remove_at(xs: &mut [u64], n: usize, i: usize) -> usize
-    requires { ⌜ (i < n) × (n ≤ length (now xs)) ⌝ }
-    ensures { λ r. ⌜ Removed (now (xs .entry)) (now (xs .exit)) n i r ⌝ }
+// Takes out the element at i among the first `count`, moving those after it down by one, with 0 after the last; how many are left.
+pub fn remove_at(xs: &mut [u64], count: usize, i: usize) -> usize
+    requires { ⌜ (i < count) × (count ≤ length (now xs)) ⌝ }
+    ensures { λ r. ⌜ Removed (now (xs .entry)) (now (xs .exit)) count i r ⌝ }
 {
-    let last = n - 1;
+    let last = count - 1;
     let mut k = i;
     while k < last {
         let j = k + 1;
@@ -108,41 +108,35 @@ pub struct Insertion {
     pub full: bool,
 }
 
-// Puts a key into the set of the first n elements, of which there may be `room`.
-pub fn insert(xs: &mut [u64], n: usize, room: usize, key: u64) -> Insertion
-    requires { ⌜ (n ≤ room) × (room ≤ length (now xs)) × Rising self (take n (now xs)) ⌝ }
-    ensures { λ r. ⌜ IsInserted (now (xs .entry)) (now (xs .exit)) n room key r ⌝ }
+// Puts a key into the set of the first `count` elements, of which there may be `room`.
+pub fn insert(xs: &mut [u64], count: usize, room: usize, key: u64) -> Insertion
+    requires { ⌜ (count ≤ room) × (room ≤ length (now xs)) × Rising self (take count (now xs)) ⌝ }
+    ensures { λ r. ⌜ IsInserted (now (xs .entry)) (now (xs .exit)) count room key r ⌝ }
 {
-    let f = find(xs, n, key);
+    let f = find(xs, count, key);
     if f.hit {
-        return Insertion {
-            count: n,
-            full: false,
-        };
+        return Insertion { count, full: false };
     }
-    if n == room {
-        return Insertion {
-            count: n,
-            full: true,
-        };
+    if count == room {
+        return Insertion { count, full: true };
     }
     let at = f.at;
-    insert_at(xs, n, at, key);
+    insert_at(xs, count, at, key);
     Insertion {
-        count: n + 1,
+        count: count + 1,
         full: false,
     }
 }
 
-// Takes a key out of the set of the first n elements, if it is there; how many are left.
-pub fn remove(xs: &mut [u64], n: usize, key: u64) -> usize
-    requires { ⌜ (n ≤ length (now xs)) × Rising self (take n (now xs)) ⌝ }
-    ensures { λ r. ⌜ IsRemoved (now (xs .entry)) (now (xs .exit)) n key r ⌝ }
+// Takes a key out of the set of the first `count` elements, if it is there; how many are left.
+pub fn remove(xs: &mut [u64], count: usize, key: u64) -> usize
+    requires { ⌜ (count ≤ length (now xs)) × Rising self (take count (now xs)) ⌝ }
+    ensures { λ r. ⌜ IsRemoved (now (xs .entry)) (now (xs .exit)) count key r ⌝ }
 {
-    let f = find(xs, n, key);
+    let f = find(xs, count, key);
     if f.hit {
         let at = f.at;
-        return remove_at(xs, n, at);
+        return remove_at(xs, count, at);
     }
-    n
+    count
 }

@@ -30,10 +30,10 @@ const ADDI: u8 = 4;
 const OR: u8 = 5;
 
 // Whether a word passes the test of a number.
-fn is_test(t: u8, w: u32) -> bool
-    ensures { λ r. ⌜ r ≡ test t w ⌝ }
+fn is_test(which: u8, w: u32) -> bool
+    ensures { λ r. ⌜ r ≡ test which w ⌝ }
 {
-    match t {
+    match which {
         STWU => is_stwu(w),
         MFLR => is_mflr(w),
         STW => is_stw(w),

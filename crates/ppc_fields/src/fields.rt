@@ -3,12 +3,12 @@ ghost use mathlib.Core.Path.{_≡_};
 ghost use Prim.Native.Nat.{_<_};
 ghost use Rattle.rules.specs.Words as rules;
 
-// n bits, the lowest of them at place p, counted from the right.
-pub fn field(w: u32, p: u32, n: u32) -> u32
-    requires { ⌜ (p < 32) × (n < 32) ⌝ }
-    ensures { λ r. ⌜ r ≡ rules.field p n w ⌝ }
+// `number` bits, the lowest of them at place p, counted from the right.
+pub fn field(w: u32, p: u32, number: u32) -> u32
+    requires { ⌜ (p < 32) × (number < 32) ⌝ }
+    ensures { λ r. ⌜ r ≡ rules.field p number w ⌝ }
 {
-    (w >> p) & ((1u32 << n) - 1)
+    (w >> p) & ((1u32 << number) - 1)
 }
 
 // The primary opcode.

@@ -175,20 +175,20 @@ fn branch_bits(j: usize) -> u64
     BRANCHES[j]
 }
 
-// Digit k of a number, of four bits.
-fn hex_digit(n: u64, k: u32) -> u32
-    requires { ⌜ k < 16 ⌝ }
-    ensures { λ r. ⌜ r ≡ digit 4 k n ⌝ }
+// Digit `index` of a number, of four bits.
+fn hex_digit(number: u64, index: u32) -> u32
+    requires { ⌜ index < 16 ⌝ }
+    ensures { λ r. ⌜ r ≡ digit 4 index number ⌝ }
 {
-    ((n >> (4 * k) as u64) % 16) as u32
+    ((number >> (4 * index) as u64) % 16) as u32
 }
 
-// Bit k of a number.
-fn bit_of(n: u64, k: u32) -> u32
-    requires { ⌜ k < 64 ⌝ }
-    ensures { λ r. ⌜ r ≡ digit 1 k n ⌝ }
+// Bit `index` of a number.
+fn bit_of(number: u64, index: u32) -> u32
+    requires { ⌜ index < 64 ⌝ }
+    ensures { λ r. ⌜ r ≡ digit 1 index number ⌝ }
 {
-    ((n >> k as u64) % 2) as u32
+    ((number >> index as u64) % 2) as u32
 }
 
 fn wide(x: u32) -> usize

@@ -10,12 +10,12 @@ use borrow.Author.Tests.{eqb-true}
 use Rattle.rules.specs.Choice.{if, by-if}
 use Rattle.rules.specs.Text.{bytes}
 use Rattle.rules.specs.Blocks.{block}
-use Rattle.rules.specs.Slices.{Ways}
+use Rattle.rules.specs.Slices.{Branches}
 use Rattle.rules.specs.Lines.{Line, address, text, lines-B, lines-from, lines-C, lines-X, lines-J}
 use Rattle.ordered.specs.Columns.{join}
-use Rattle.lists.specs.Groups.{Pair, pair, add-way, grouped}
-use Rattle.lists.specs.View.{part, table}
-use Rattle.lists.specs.declared.Small.{Small}
+use Rattle.function_slices.specs.Groups.{Pair, pair, add-way, grouped}
+use Rattle.function_slices.specs.View.{part, table}
+use Rattle.function_slices.specs.declared.Small.{Small}
 use Rattle.entries.specs.Columns.{at-froms, at-tos, at-references, at-addresses, at-sizes, slices-from}
 use Rattle.printing_lines.specs.Columns.{second, line, lines}
 use Rattle.printing.specs.Told.{flow, others}
@@ -47,19 +47,19 @@ tables-are (p ∷ ps) (q ∷ qs) = ap (λ (t : List ℕ). line 74 p q ++ t) (tab
 way-line : Pair → Line
 way-line p = bytes "C " ++ address (p .source) ++ bytes " " ++ address (p .target)
 
-way-added : (p : Pair) (g : List Ways) → lines-C (add-way p g) ≡ way-line p ∷ lines-C g
+way-added : (p : Pair) (g : List Branches) → lines-C (add-way p g) ≡ way-line p ∷ lines-C g
 unfolding way-line
 way-added p [] = refl
 way-added p (w ∷ g) =
-    by-if (λ (l : List Ways). lines-C l ≡ way-line p ∷ lines-C (w ∷ g)) (eqb (p .source) (w .from))
+    by-if (λ (l : List Branches). lines-C l ≡ way-line p ∷ lines-C (w ∷ g)) (eqb (p .source) (w .from))
     (λ e. ap (λ (f : ℕ). way-line p ∷ (lines-from f (w .targets) ++ lines-C g)) (eqb-true (p .source) (w .from) e))
     (λ _. refl)
 
-ways-are : (ps qs : List ℕ) → text (lines-C (grouped (join pair ps qs))) ≡ lines 67 ps qs
+branches-are : (ps qs : List ℕ) → text (lines-C (grouped (join pair ps qs))) ≡ lines 67 ps qs
 unfolding second if way-line
-ways-are [] qs = refl
-ways-are (p ∷ ps) [] = refl
-ways-are (p ∷ ps) (q ∷ qs) = ap text (way-added (pair p q) (grouped (join pair ps qs))) ∙ ap (λ (t : List ℕ). line 67 p q ++ t) (ways-are ps qs)
+branches-are [] qs = refl
+branches-are (p ∷ ps) [] = refl
+branches-are (p ∷ ps) (q ∷ qs) = ap text (way-added (pair p q) (grouped (join pair ps qs))) ∙ ap (λ (t : List ℕ). line 67 p q ++ t) (branches-are ps qs)
 
 -- ---- the columns of a function's numbers
 
@@ -76,14 +76,14 @@ module _ (s : Small) (l : List ℕ) where
     columns : lines t (held n a) (held n b) ≡ lines t (take n (drop a l)) (take n (drop b l))
     columns = ap₂ (λ (x y : List ℕ). lines t x y) (column n a) (column n b)
 
-  pub flow-is : text (lines-B (slices-from s l .blocks)) ++ text (lines-C (slices-from s l .ways)) ≡ flow s l
+  pub flow-is : text (lines-B (slices-from s l .blocks)) ++ text (lines-C (slices-from s l .branches)) ≡ flow s l
   flow-is =
       ap₂ (λ (a b : List ℕ). a ++ b)
       (blocks-are (held (s .blocks) 0) (held (s .blocks) (s .blocks)) ∙ columns 66 (s .blocks) 0 (s .blocks))
-      (ways-are (held (s .ways) (at-froms s)) (held (s .ways) (at-tos s)) ∙ columns 67 (s .ways) (at-froms s) (at-tos s))
+      (branches-are (held (s .branches) (at-froms s)) (held (s .branches) (at-tos s)) ∙ columns 67 (s .branches) (at-froms s) (at-tos s))
 
-  pub others-is : text (lines-X (slices-from s l .references)) ++ text (lines-J (slices-from s l .tables)) ≡ others s l
+  pub others-is : text (lines-X (slices-from s l .function-references)) ++ text (lines-J (slices-from s l .jump-table-references)) ≡ others s l
   others-is =
       ap₂ (λ (a b : List ℕ). a ++ b)
-      (references-are (held (s .references) (at-references s)) ∙ columns 88 (s .references) (at-references s) (at-references s))
-      (tables-are (held (s .tables) (at-addresses s)) (held (s .tables) (at-sizes s)) ∙ columns 74 (s .tables) (at-addresses s) (at-sizes s))
+      (references-are (held (s .«function_references») (at-references s)) ∙ columns 88 (s .«function_references») (at-references s) (at-references s))
+      (tables-are (held (s .«jump_table_references») (at-addresses s)) (held (s .«jump_table_references») (at-sizes s)) ∙ columns 74 (s .«jump_table_references») (at-addresses s) (at-sizes s))

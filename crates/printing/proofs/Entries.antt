@@ -14,7 +14,7 @@ use Rattle.rules.specs.Slices.{Slices}
 use Rattle.rules.specs.Known.{Entry, is-some, is-function}
 use Rattle.rules.specs.Lines.{Line, address, address-or-dash, flag, text, line-F, lines-B, lines-C, lines-X, lines-J, lines-function, lines-entry}
 use Rattle.rules.proofs.Tests.{and-right}
-use Rattle.lists.specs.declared.Small.{Small}
+use Rattle.function_slices.specs.declared.Small.{Small}
 use Rattle.entries.specs.Columns.{slices-from}
 use Rattle.entries.specs.Table.{odd, small-from}
 use Rattle.printing_lines.specs.Columns.{second, tagged, line, function-line}
@@ -66,12 +66,12 @@ module _ (rows lists : List ℕ) where
       regrouped (tagged 70 (x .entry) ++ (32 ∷ address (x .end))) (address-or-dash (s .prologue)) (address-or-dash (s .epilogue)) (flag (s .conditional) ∷ flag (s .rfi) ∷ flag (s .load) ∷ [])
       ∙ ap₂ (λ (a b : ℕ). function-line a b (s .prologue) (s .epilogue) (s .conditional) (s .rfi) (s .load)) e f
 
-  lists-lines : text (lines-B (slices-from s lists .blocks) ++ lines-C (slices-from s lists .ways) ++ lines-X (slices-from s lists .references) ++ lines-J (slices-from s lists .tables)) ≡ text (lines-B (slices-from s lists .blocks)) ++ text (lines-C (slices-from s lists .ways)) ++ text (lines-X (slices-from s lists .references)) ++ text (lines-J (slices-from s lists .tables))
+  lists-lines : text (lines-B (slices-from s lists .blocks) ++ lines-C (slices-from s lists .branches) ++ lines-X (slices-from s lists .function-references) ++ lines-J (slices-from s lists .jump-table-references)) ≡ text (lines-B (slices-from s lists .blocks)) ++ text (lines-C (slices-from s lists .branches)) ++ text (lines-X (slices-from s lists .function-references)) ++ text (lines-J (slices-from s lists .jump-table-references))
   lists-lines =
       let b : List Line = lines-B (slices-from s lists .blocks) in
-      let c : List Line = lines-C (slices-from s lists .ways) in
-      let x : List Line = lines-X (slices-from s lists .references) in
-      let j : List Line = lines-J (slices-from s lists .tables) in
+      let c : List Line = lines-C (slices-from s lists .branches) in
+      let x : List Line = lines-X (slices-from s lists .function-references) in
+      let j : List Line = lines-J (slices-from s lists .jump-table-references) in
       text-append (b ++ c ++ x) j ∙ ap (λ (t : List ℕ). t ++ text j) (text-append (b ++ c) x ∙ ap (λ (t : List ℕ). t ++ text x) (text-append b c))
 
   of-a-function : (r : Bool) → r ≡ of-function (getD rows 2 0) (getD rows 1 0) → r ≡ true → text (lines-entry (first-entry rows lists)) ≡ function-line (getD rows 0 0) (getD rows 1 0) (s .prologue) (s .epilogue) (s .conditional) (s .rfi) (s .load) ++ flow s lists ++ others s lists
@@ -82,9 +82,9 @@ module _ (rows lists : List ℕ) where
       let o : Option Slices = first-entry rows lists .slices in
       let f : List ℕ = line-F (first-entry rows lists) (slices-from s lists) ++ bytes "\n" in
       let b : List ℕ = text (lines-B (slices-from s lists .blocks)) in
-      let c : List ℕ = text (lines-C (slices-from s lists .ways)) in
-      let x : List ℕ = text (lines-X (slices-from s lists .references)) in
-      let j : List ℕ = text (lines-J (slices-from s lists .tables)) in
+      let c : List ℕ = text (lines-C (slices-from s lists .branches)) in
+      let x : List ℕ = text (lines-X (slices-from s lists .function-references)) in
+      let j : List ℕ = text (lines-J (slices-from s lists .jump-table-references)) in
       ap text (if-true yes (lines-function (first-entry rows lists) o) ((bytes "N " ++ address (getD rows 0 0)) ∷ []))
       ∙ ap (λ (o : Option Slices). text (lines-function (first-entry rows lists) o)) (if-true listed (some (slices-from s lists)) none)
       ∙ ap (λ (t : List ℕ). f ++ t) lists-lines

@@ -9,7 +9,7 @@ use lib.ListN.{length, length-append}
 use Rattle.rules.specs.Choice.{by-if}
 use Rattle.rules.specs.Text.{bytes}
 use Rattle.rules.specs.Blocks.{Block}
-use Rattle.rules.specs.Slices.{Slices, Ways, Table, count-ways}
+use Rattle.rules.specs.Slices.{Slices, Branches, Table, count-branches}
 use Rattle.rules.specs.Known.{Entry, is-function}
 use Rattle.rules.specs.Lines.{Line, address-or-dash, flag, text, line-F, lines-B, lines-from, lines-C, lines-X, lines-J, lines-function, lines-entry, lines-map}
 use Rattle.stored.proofs.Numbers.{flow-count, others-count, parted-count}
@@ -29,10 +29,10 @@ from-short : (k : ℕ) (l : List ℕ) → length (text (lines-from k l)) ≤ 20 
 from-short k [] = omega arith
 from-short k (t ∷ l) = omega (arith, from-short k l)
 
-ways-short : (l : List Ways) → length (text (lines-C l)) ≤ 20 * count-ways l
-ways-short [] = omega arith
-ways-short (w ∷ l) =
-    omega (arith, ap length (text-append (lines-from (w .from) (w .targets)) (lines-C l)), length-append (text (lines-from (w .from) (w .targets))) (text (lines-C l)), from-short (w .from) (w .targets), ways-short l)
+branches-short : (l : List Branches) → length (text (lines-C l)) ≤ 20 * count-branches l
+branches-short [] = omega arith
+branches-short (w ∷ l) =
+    omega (arith, ap length (text-append (lines-from (w .from) (w .targets)) (lines-C l)), length-append (text (lines-from (w .from) (w .targets))) (text (lines-C l)), from-short (w .from) (w .targets), branches-short l)
 
 references-short : (l : List ℕ) → length (text (lines-X l)) ≤ 11 * length l
 references-short [] = omega arith
@@ -59,11 +59,11 @@ four a b c d =
 function-short : (x : Entry) (o : Option Slices) → length (text (lines-function x o)) ≤ 46 + 11 * length (numbers-in o)
 function-short x none = omega arith
 function-short x (some s) =
-    let e : length (text (lines-function x (some s))) ≡ length (line-F x s ++ bytes "\n") + length (text (lines-B (s .blocks) ++ lines-C (s .ways) ++ lines-X (s .references) ++ lines-J (s .tables))) =
-    length-append (line-F x s ++ bytes "\n") (text (lines-B (s .blocks) ++ lines-C (s .ways) ++ lines-X (s .references) ++ lines-J (s .tables)))
+    let e : length (text (lines-function x (some s))) ≡ length (line-F x s ++ bytes "\n") + length (text (lines-B (s .blocks) ++ lines-C (s .branches) ++ lines-X (s .function-references) ++ lines-J (s .jump-table-references))) =
+    length-append (line-F x s ++ bytes "\n") (text (lines-B (s .blocks) ++ lines-C (s .branches) ++ lines-X (s .function-references) ++ lines-J (s .jump-table-references)))
     in
     let n : length (line-F x s ++ bytes "\n") ≡ length (line-F x s) + 1 = length-append (line-F x s) (bytes "\n") in
-    omega (arith, e, n, four (lines-B (s .blocks)) (lines-C (s .ways)) (lines-X (s .references)) (lines-J (s .tables)), head-short x s, blocks-short (s .blocks), ways-short (s .ways), references-short (s .references), tables-short (s .tables), parted-count s, flow-count s, others-count s)
+    omega (arith, e, n, four (lines-B (s .blocks)) (lines-C (s .branches)) (lines-X (s .function-references)) (lines-J (s .jump-table-references)), head-short x s, blocks-short (s .blocks), branches-short (s .branches), references-short (s .function-references), tables-short (s .jump-table-references), parted-count s, flow-count s, others-count s)
 
 entry-short : (x : Entry) → length (text (lines-entry x)) ≤ 46 + 11 * length (entry-numbers x)
 unfolding lines-entry

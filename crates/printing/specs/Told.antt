@@ -5,7 +5,7 @@ use mathlib.Core.List.{List, _++_}
 use Prim.Native.Nat.{ℕ, _/_}
 use lib.Dec.{eqb}
 use lib.ListN.{length, take, drop}
-use Rattle.lists.specs.declared.Small.{Small}
+use Rattle.function_slices.specs.declared.Small.{Small}
 use Rattle.entries.specs.Columns.{at-froms, at-tos, at-references, at-addresses, at-sizes}
 use Rattle.entries.specs.Table.{odd}
 use Rattle.printing_lines.specs.Columns as columns
@@ -24,10 +24,10 @@ of-function flags end = odd flags && not (eqb end 0) && odd (flags / 2)
 abbrev pub flow : Small → List ℕ → List ℕ
 flow s l =
     columns.lines 66 (take (s .blocks) l) (take (s .blocks) (drop (s .blocks) l)) ++
-    columns.lines 67 (take (s .ways) (drop (at-froms s) l)) (take (s .ways) (drop (at-tos s) l))
+    columns.lines 67 (take (s .branches) (drop (at-froms s) l)) (take (s .branches) (drop (at-tos s) l))
 
 -- the lines of references and jump tables
 abbrev pub others : Small → List ℕ → List ℕ
 others s l =
-    columns.lines 88 (take (s .references) (drop (at-references s) l)) (take (s .references) (drop (at-references s) l)) ++
-    columns.lines 74 (take (s .tables) (drop (at-addresses s) l)) (take (s .tables) (drop (at-sizes s) l))
+    columns.lines 88 (take (s .«function_references») (drop (at-references s) l)) (take (s .«function_references») (drop (at-references s) l)) ++
+    columns.lines 74 (take (s .«jump_table_references») (drop (at-addresses s) l)) (take (s .«jump_table_references») (drop (at-sizes s) l))

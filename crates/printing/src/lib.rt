@@ -14,29 +14,29 @@ ghost use Rattle.printing.specs.Rows.{first-entry, There, Tells, Telling
 ghost use Rattle.printing.specs.Told.{Begun, of-function, flow, others};
 
 // Blocks and ways on, from a function's numbers.
-fn put_flow(out: &mut [u8], at: usize, l: &[u64], s: lists::Small) -> usize
-    requires long { ⌜ numbers-long s ≤ length (now l) ⌝ }
-    requires room { ⌜ Room (flow s (now l)) (now out) at ⌝ }
-    ensures { λ r. ⌜ Printed (flow s (now (l .entry))) (now (out .entry)) at (now (out .exit)) r ⌝ }
+fn put_flow(out: &mut [u8], at: usize, l: &[u64], slices: function_slices::Small) -> usize
+    requires long { ⌜ numbers-long slices ≤ length (now l) ⌝ }
+    requires room { ⌜ Room (flow slices (now l)) (now out) at ⌝ }
+    ensures { λ r. ⌜ Printed (flow slices (now (l .entry))) (now (out .entry)) at (now (out .exit)) r ⌝ }
 {
-    let b = s.blocks;
+    let b = slices.blocks;
     let c = b + b;
-    let d = c + s.ways;
+    let d = c + slices.branches;
     let p = printing_lines::put_lines(out, at, 66, l, 0, b, b);
-    printing_lines::put_lines(out, p, 67, l, c, d, s.ways)
+    printing_lines::put_lines(out, p, 67, l, c, d, slices.branches)
 }
 
 // References and jump tables.
-fn put_others(out: &mut [u8], at: usize, l: &[u64], s: lists::Small) -> usize
-    requires long { ⌜ numbers-long s ≤ length (now l) ⌝ }
-    requires room { ⌜ Room (others s (now l)) (now out) at ⌝ }
-    ensures { λ r. ⌜ Printed (others s (now (l .entry))) (now (out .entry)) at (now (out .exit)) r ⌝ }
+fn put_others(out: &mut [u8], at: usize, l: &[u64], slices: function_slices::Small) -> usize
+    requires long { ⌜ numbers-long slices ≤ length (now l) ⌝ }
+    requires room { ⌜ Room (others slices (now l)) (now out) at ⌝ }
+    ensures { λ r. ⌜ Printed (others slices (now (l .entry))) (now (out .entry)) at (now (out .exit)) r ⌝ }
 {
-    let a = s.blocks + s.blocks + s.ways + s.ways;
-    let b = a + s.references;
-    let c = b + s.tables;
-    let p = printing_lines::put_lines(out, at, 88, l, a, a, s.references);
-    printing_lines::put_lines(out, p, 74, l, b, c, s.tables)
+    let a = slices.blocks + slices.blocks + slices.branches + slices.branches;
+    let b = a + slices.function_references;
+    let c = b + slices.jump_table_references;
+    let p = printing_lines::put_lines(out, at, 88, l, a, a, slices.function_references);
+    printing_lines::put_lines(out, p, 74, l, b, c, slices.jump_table_references)
 }
 
 // Whether flags and an end are those of a function.
@@ -56,7 +56,9 @@ fn is_function(flags: u64, end: u64) -> bool
 fn put_entry(out: &mut [u8], at: usize, rows: &[u64], lists: &[u64]) -> usize
     requires there { ⌜ (10 ≤ length (now rows)) × (row-size (drop 2 (now rows)) ≤ length (now lists)) ⌝ }
     requires room { ⌜ Room (rules.text (rules.lines-entry (first-entry (now rows) (now lists)))) (now out) at ⌝ }
-    ensures { λ r. ⌜ Printed (rules.text (rules.lines-entry (first-entry (now (rows .entry)) (now (lists .entry))))) (now (out .entry)) at (now (out .exit)) r ⌝ }
+    ensures { λ r.
+        ⌜ Printed (rules.text (rules.lines-entry (first-entry (now (rows .entry)) (now (lists .entry)))))
+        (now (out .entry)) at (now (out .exit)) r ⌝ }
 {
     if is_function(rows[2], rows[1]) {
         let s = entries::read_row(rows, 2);
@@ -76,17 +78,19 @@ fn first_size(rows: &[u64], room: usize) -> usize
     entries::size(s, room)
 }
 
-// The lines of n entries.
-fn put_entries(out: &mut [u8], at: usize, rows: &[u64], lists: &[u64], n: usize) -> usize
-    requires there { ⌜ There n (now rows) (now lists) ⌝ }
-    requires room { ⌜ Room (rules.text (rules.lines-map (map-of n (now rows) (now lists)))) (now out) at ⌝ }
-    ensures { λ r. ⌜ Printed (rules.text (rules.lines-map (map-of n (now (rows .entry)) (now (lists .entry))))) (now (out .entry)) at (now (out .exit)) r ⌝ }
+// The lines of `count` entries.
+fn put_entries(out: &mut [u8], at: usize, rows: &[u64], lists: &[u64], count: usize) -> usize
+    requires there { ⌜ There count (now rows) (now lists) ⌝ }
+    requires room { ⌜ Room (rules.text (rules.lines-map (map-of count (now rows) (now lists)))) (now out) at ⌝ }
+    ensures { λ r.
+        ⌜ Printed (rules.text (rules.lines-map (map-of count (now (rows .entry)) (now (lists .entry)))))
+        (now (out .entry)) at (now (out .exit)) r ⌝ }
 {
     let room = lists.len();
     let mut p = at;
     let mut q: usize = 0;
     let mut i: usize = 0;
-    while i < n {
+    while i < count {
         let a = i * 10;
         p = put_entry(out, p, &rows[a..], &lists[q..]);
         q += first_size(&rows[a..], room - q);
@@ -95,14 +99,17 @@ fn put_entries(out: &mut [u8], at: usize, rows: &[u64], lists: &[u64], n: usize)
     p
 }
 
-// The text of a map of n entries, and how long it is.
-pub fn put_map(rows: &[u64], lists: &[u64], n: usize, out: &mut [u8]) -> usize
-    requires map { ⌜ Telling n (now rows) (now lists) ⌝ }
-    requires room { ⌜ 6 + 46 * n + 11 * length (now lists) ≤ length (now out) ⌝ }
-    ensures { λ r. ⌜ ((es : List Entry) → Tells n (now (rows .entry)) (now (lists .entry)) es → Begun (rules.text (rules.lines (ok es))) (now (out .entry)) (now (out .exit)) r) ⌝ }
+// The text of a map of `count` entries, and how long it is.
+pub fn put_map(rows: &[u64], lists: &[u64], count: usize, out: &mut [u8]) -> usize
+    requires map { ⌜ Telling count (now rows) (now lists) ⌝ }
+    requires room { ⌜ 6 + 46 * count + 11 * length (now lists) ≤ length (now out) ⌝ }
+    ensures { λ r.
+        ⌜ ((es : List Entry) →
+        Tells count (now (rows .entry)) (now (lists .entry)) es →
+        Begun (rules.text (rules.lines (ok es))) (now (out .entry)) (now (out .exit)) r) ⌝ }
 {
     let p = printing_lines::put_answer(out, 0, 0);
-    put_entries(out, p, rows, lists, n)
+    put_entries(out, p, rows, lists, count)
 }
 
 // The text of a refusal, the number alone, and how long it is.

@@ -52,32 +52,32 @@ fn put_eight_digits(out: &mut [u8], at: usize, x: u64) -> usize
     put_four_digits(out, p, x)
 }
 
-fn put_address(out: &mut [u8], at: usize, k: u64) -> usize
-    requires { ⌜ Room (rules.address k) (now out) at ⌝ }
-    ensures { λ r. ⌜ Printed (rules.address k) (now (out .entry)) at (now (out .exit)) r ⌝ }
+fn put_address(out: &mut [u8], at: usize, key: u64) -> usize
+    requires { ⌜ Room (rules.address key) (now out) at ⌝ }
+    ensures { λ r. ⌜ Printed (rules.address key) (now (out .entry)) at (now (out .exit)) r ⌝ }
 {
-    put_eight_digits(out, at, k % 0x1_0000_0000)
+    put_eight_digits(out, at, key % 0x1_0000_0000)
 }
 
 // A space and an address.
-fn put_spaced(out: &mut [u8], at: usize, k: u64) -> usize
-    requires { ⌜ Room (32 ∷ rules.address k) (now out) at ⌝ }
-    ensures { λ r. ⌜ Printed (32 ∷ rules.address k) (now (out .entry)) at (now (out .exit)) r ⌝ }
+fn put_spaced(out: &mut [u8], at: usize, key: u64) -> usize
+    requires { ⌜ Room (32 ∷ rules.address key) (now out) at ⌝ }
+    ensures { λ r. ⌜ Printed (32 ∷ rules.address key) (now (out .entry)) at (now (out .exit)) r ⌝ }
 {
     let p = put_byte(out, at, 32);
-    put_address(out, p, k)
+    put_address(out, p, key)
 }
 
 // A space and an address, or a dash for none.
-fn put_spaced_or_dash(out: &mut [u8], at: usize, k: u64) -> usize
-    requires { ⌜ Room (32 ∷ rules.address-or-dash k) (now out) at ⌝ }
-    ensures { λ r. ⌜ Printed (32 ∷ rules.address-or-dash k) (now (out .entry)) at (now (out .exit)) r ⌝ }
+fn put_spaced_or_dash(out: &mut [u8], at: usize, key: u64) -> usize
+    requires { ⌜ Room (32 ∷ rules.address-or-dash key) (now out) at ⌝ }
+    ensures { λ r. ⌜ Printed (32 ∷ rules.address-or-dash key) (now (out .entry)) at (now (out .exit)) r ⌝ }
 {
-    if k == 0 {
+    if key == 0 {
         let p = put_byte(out, at, 32);
         return put_byte(out, p, 45);
     }
-    put_spaced(out, at, k)
+    put_spaced(out, at, key)
 }
 
 // A space and eight digits.
@@ -92,12 +92,12 @@ fn put_spaced_number(out: &mut [u8], at: usize, x: u64) -> usize
 // ---- lines of one or two numbers
 
 // The letter and the first address.
-fn put_tagged(out: &mut [u8], at: usize, tag: u8, k: u64) -> usize
-    requires { ⌜ Room (columns.tagged tag k) (now out) at ⌝ }
-    ensures { λ r. ⌜ Printed (columns.tagged tag k) (now (out .entry)) at (now (out .exit)) r ⌝ }
+fn put_tagged(out: &mut [u8], at: usize, tag: u8, key: u64) -> usize
+    requires { ⌜ Room (columns.tagged tag key) (now out) at ⌝ }
+    ensures { λ r. ⌜ Printed (columns.tagged tag key) (now (out .entry)) at (now (out .exit)) r ⌝ }
 {
     let p = put_byte(out, at, tag);
-    put_spaced(out, p, k)
+    put_spaced(out, p, key)
 }
 
 // The second number, for the letters that have one.
@@ -126,7 +126,7 @@ pub fn put_line(out: &mut [u8], at: usize, tag: u8, a: u64, b: u64) -> usize
     put_byte(out, q, 10)
 }
 
-// A line for each of n rows, whose columns begin at a and at b.
+// A line for each of `count` rows, whose columns begin at a and at b.
 pub fn put_lines(
     out: &mut [u8],
     at: usize,
@@ -134,15 +134,17 @@ pub fn put_lines(
     l: &[u64],
     a: usize,
     b: usize,
-    n: usize,
+    count: usize,
 ) -> usize
-    requires columns { ⌜ (a + n ≤ length (now l)) × (b + n ≤ length (now l)) ⌝ }
-    requires room { ⌜ Room (columns.lines tag (take n (drop a (now l))) (take n (drop b (now l)))) (now out) at ⌝ }
-    ensures { λ r. ⌜ Printed (columns.lines tag (take n (drop a (now (l .entry)))) (take n (drop b (now (l .entry))))) (now (out .entry)) at (now (out .exit)) r ⌝ }
+    requires columns { ⌜ (a + count ≤ length (now l)) × (b + count ≤ length (now l)) ⌝ }
+    requires room { ⌜ Room (columns.lines tag (take count (drop a (now l))) (take count (drop b (now l)))) (now out) at ⌝ }
+    ensures { λ r.
+        ⌜ Printed (columns.lines tag (take count (drop a (now (l .entry)))) (take count (drop b (now (l .entry)))))
+        (now (out .entry)) at (now (out .exit)) r ⌝ }
 {
     let mut p = at;
     let mut i: usize = 0;
-    while i < n {
+    while i < count {
         p = put_line(out, p, tag, l[a + i], l[b + i]);
         i += 1;
     }
@@ -172,26 +174,39 @@ fn put_flags(out: &mut [u8], at: usize, c: bool, i: bool, l: bool) -> usize
 }
 
 // A function: entry, end, prologue and epilogue, and whether it has a conditional `blr`, an `rfi`, a load of r1.
-pub fn put_function_line(out: &mut [u8], at: usize, entry: u64, end: u64, s: lists::Small) -> usize
-    requires { ⌜ Room (columns.function-line entry end (s .prologue) (s .epilogue) (s .conditional) (s .rfi) (s .load)) (now out) at ⌝ }
-    ensures { λ r. ⌜ Printed (columns.function-line entry end (s .prologue) (s .epilogue) (s .conditional) (s .rfi) (s .load)) (now (out .entry)) at (now (out .exit)) r ⌝ }
+pub fn put_function_line(
+    out: &mut [u8],
+    at: usize,
+    entry: u64,
+    end: u64,
+    slices: function_slices::Small,
+) -> usize
+    requires { ⌜ Room
+        (columns.function-line entry end (slices .prologue) (slices .epilogue) (slices .conditional) (slices .rfi)
+        (slices .load))
+        (now out) at ⌝ }
+    ensures { λ r.
+        ⌜ Printed
+        (columns.function-line entry end (slices .prologue) (slices .epilogue) (slices .conditional) (slices .rfi)
+        (slices .load))
+        (now (out .entry)) at (now (out .exit)) r ⌝ }
 {
     let p = put_tagged(out, at, 70, entry);
     let q = put_spaced(out, p, end);
-    let t = put_spaced_or_dash(out, q, s.prologue);
-    let u = put_spaced_or_dash(out, t, s.epilogue);
-    put_flags(out, u, s.conditional, s.rfi, s.load)
+    let t = put_spaced_or_dash(out, q, slices.prologue);
+    let u = put_spaced_or_dash(out, t, slices.epilogue);
+    put_flags(out, u, slices.conditional, slices.rfi, slices.load)
 }
 
 // R and a number of two decimal digits.
-pub fn put_answer(out: &mut [u8], at: usize, n: u32) -> usize
-    requires number { ⌜ n < 100 ⌝ }
-    requires room { ⌜ Room (rules.line-R n ++ (10 ∷ [])) (now out) at ⌝ }
-    ensures { λ r. ⌜ Printed (rules.line-R n ++ (10 ∷ [])) (now (out .entry)) at (now (out .exit)) r ⌝ }
+pub fn put_answer(out: &mut [u8], at: usize, answer: u32) -> usize
+    requires number { ⌜ answer < 100 ⌝ }
+    requires room { ⌜ Room (rules.line-R answer ++ (10 ∷ [])) (now out) at ⌝ }
+    ensures { λ r. ⌜ Printed (rules.line-R answer ++ (10 ∷ [])) (now (out .entry)) at (now (out .exit)) r ⌝ }
 {
     let p = put_byte(out, at, 82);
     let q = put_byte(out, p, 32);
-    let r = put_byte(out, q, 48 + (n / 10) as u8);
-    let s = put_byte(out, r, 48 + (n % 10) as u8);
+    let r = put_byte(out, q, 48 + (answer / 10) as u8);
+    let s = put_byte(out, r, 48 + (answer % 10) as u8);
     put_byte(out, s, 10)
 }

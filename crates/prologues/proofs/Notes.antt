@@ -16,8 +16,8 @@ use Rattle.rules.specs.Sequences.{check-prologue-sequence, check-epilogue-seque
 use Rattle.rules.specs.Slices.{Slices, with-prologue, with-epilogue, with-r1-load}
 use Rattle.rules.specs.Step as rules
 use Rattle.rules.proofs.Tests.{or-left, or-right}
-use Rattle.lists.specs.View.{view, Fit}
-use Rattle.lists.specs.declared.Small.{Small}
+use Rattle.function_slices.specs.View.{view, Fit}
+use Rattle.function_slices.specs.declared.Small.{Small}
 use Rattle.walk.specs.State.{faulting, Listed}
 use Rattle.walk.proofs.Answers.{listed-ok, listed-fault, refit}
 use Rattle.prologues.specs.Code.{CodeWords, Lies, Notes, NotesIn, CheckedIn, Checked}
@@ -66,7 +66,7 @@ module _ (base : ℕ) (b : List ℕ) (s : Small) (addr : ℕ) (z : s .fault ≡ 
         let e : (ltb addr (view k v s .prologue) || any is-function-terminator (words-between im (view k v s .prologue + 4) addr)) ≡ false = unfold view in rw (le-ltb addr (s .prologue) above) (between im code ∙ h) in
         rw (if-false e) (unchanged k v s z f)
 
-  pub first-prologue : s .prologue ≡ 0 → Notes (λ im. rules.meet-prologue im addr) base b s (record { blocks = s .blocks; ways = s .ways; references = s .references; tables = s .tables; possible = s .possible; prologue = addr; epilogue = s .epilogue; conditional = s .conditional; rfi = s .rfi; load = s .load; finalized = s .finalized; fault = s .fault })
+  pub first-prologue : s .prologue ≡ 0 → Notes (λ im. rules.meet-prologue im addr) base b s (record { blocks = s .blocks; branches = s .branches; «function_references» = s .«function_references»; «jump_table_references» = s .«jump_table_references»; «possible_blocks» = s .«possible_blocks»; prologue = addr; epilogue = s .epilogue; conditional = s .conditional; rfi = s .rfi; load = s .load; finalized = s .finalized; fault = s .fault })
   unfolding rules.meet-prologue view
   first-prologue h im k v code f =
       rw (if-true (eq-eqb (s .prologue) 0 h)) (listed-ok k v _ refl z (refit k v s _ refl refl refl refl refl f))
@@ -76,7 +76,7 @@ module _ (base : ℕ) (b : List ℕ) (s : Small) (addr : ℕ) (z : s .fault ≡ 
   another-prologue r h g im k v code f = rw (if-false (ne-eqb (s .prologue) 0 h)) (g im k v code f)
 
   module _ (w : ℕ) (l : Bool) (is-l : l ≡ is-lwz w) where
-    pub load-met : l ≡ true → Checked rules.check-prologue base b s addr w (record { blocks = s .blocks; ways = s .ways; references = s .references; tables = s .tables; possible = s .possible; prologue = s .prologue; epilogue = s .epilogue; conditional = s .conditional; rfi = s .rfi; load = true; finalized = s .finalized; fault = s .fault })
+    pub load-met : l ≡ true → Checked rules.check-prologue base b s addr w (record { blocks = s .blocks; branches = s .branches; «function_references» = s .«function_references»; «jump_table_references» = s .«jump_table_references»; «possible_blocks» = s .«possible_blocks»; prologue = s .prologue; epilogue = s .epilogue; conditional = s .conditional; rfi = s .rfi; load = true; finalized = s .finalized; fault = s .fault })
     unfolding rules.check-prologue view
     load-met h im e k v code f =
         rw (if-true (ap is-lwz (sym e) ∙ sym is-l ∙ h)) (listed-ok k v _ refl z (refit k v s _ refl refl refl refl refl f))
@@ -95,7 +95,7 @@ module _ (base : ℕ) (b : List ℕ) (s : Small) (addr : ℕ) (z : s .fault ≡ 
 -- ---- the epilogue
 
 module _ (s : Small) (addr : ℕ) (z : s .fault ≡ 0) where
-  pub first-epilogue : s .epilogue ≡ 0 → (k v : List ℕ) → Fit k v s → Listed (rules.meet-epilogue addr (view k v s)) k v (record { blocks = s .blocks; ways = s .ways; references = s .references; tables = s .tables; possible = s .possible; prologue = s .prologue; epilogue = addr; conditional = s .conditional; rfi = s .rfi; load = s .load; finalized = s .finalized; fault = s .fault })
+  pub first-epilogue : s .epilogue ≡ 0 → (k v : List ℕ) → Fit k v s → Listed (rules.meet-epilogue addr (view k v s)) k v (record { blocks = s .blocks; branches = s .branches; «function_references» = s .«function_references»; «jump_table_references» = s .«jump_table_references»; «possible_blocks» = s .«possible_blocks»; prologue = s .prologue; epilogue = addr; conditional = s .conditional; rfi = s .rfi; load = s .load; finalized = s .finalized; fault = s .fault })
   unfolding rules.meet-epilogue view
   first-epilogue h k v f = rw (if-true (eq-eqb (s .epilogue) 0 h)) (listed-ok k v _ refl z (refit k v s _ refl refl refl refl refl f))
 

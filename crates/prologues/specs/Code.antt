@@ -7,8 +7,8 @@ use Rattle.rules.specs.Bytes.{words-in}
 use Rattle.rules.specs.Address.{address-of}
 use Rattle.rules.specs.Image.{Image, code-section, word}
 use Rattle.rules.specs.Slices.{Slices}
-use Rattle.lists.specs.View.{view, Fit}
-use Rattle.lists.specs.declared.Small.{Small}
+use Rattle.function_slices.specs.View.{view, Fit}
+use Rattle.function_slices.specs.declared.Small.{Small}
 use Rattle.walk.specs.State.{Listed}
 
 -- the bytes are the code section's

@@ -18,8 +18,13 @@ pub fn put_given(
     f: Frame,
 ) -> Reading
     requires going { ⌜ (r .ok ≡ true) × (6 ≤ f .kind) × (f .kind ≤ 9) ⌝ }
-    requires fit { ⌜ (r .functions ≤ length (now functions)) × (r .objects ≤ length (now objects)) × (r .skips ≤ length (now skips)) × (r .entry ≤ length (now entry)) ⌝ }
-    ensures { λ q. ⌜ GivenPut f r q (now (functions .entry)) (now (functions .exit)) (now (objects .entry)) (now (objects .exit)) (now (skips .entry)) (now (skips .exit)) (now (entry .entry)) (now (entry .exit)) ⌝ }
+    requires fit { ⌜ (r .functions ≤ length (now functions)) ×
+        (r .objects ≤ length (now objects)) ×
+        (r .skips ≤ length (now skips)) ×
+        (r .entry ≤ length (now entry)) ⌝ }
+    ensures { λ q.
+        ⌜ GivenPut f r q (now (functions .entry)) (now (functions .exit)) (now (objects .entry)) (now (objects .exit))
+        (now (skips .entry)) (now (skips .exit)) (now (entry .entry)) (now (entry .exit)) ⌝ }
 {
     let mut q = r;
     if f.kind == 6 {

@@ -17,7 +17,8 @@ fn put_word(
 ) -> Reading
     requires going { ⌜ (r .ok ≡ true) × (1 ≤ kind) × (kind ≤ 2) ⌝ }
     requires fit { ⌜ (r .sections ≤ length (now sections)) × (r .bytes ≤ length (now bytes)) ⌝ }
-    ensures { λ q. ⌜ WordPut kind w r q (now (sections .entry)) (now (sections .exit)) (now (bytes .entry)) (now (bytes .exit)) ⌝ }
+    ensures { λ q.
+        ⌜ WordPut kind w r q (now (sections .entry)) (now (sections .exit)) (now (bytes .entry)) (now (bytes .exit)) ⌝ }
 {
     let mut q = r;
     if frames::words::last_kind(sections, r.sections) == kind {
@@ -39,8 +40,12 @@ pub fn put_code_word(
     f: Frame,
 ) -> Reading
     requires going { ⌜ (r .ok ≡ true) × (f .kind ≡ 10) ⌝ }
-    requires fit { ⌜ (r .sections ≤ length (now sections)) × (r .bytes ≤ length (now bytes)) × (r .outcomes ≤ length (now outcomes)) ⌝ }
-    ensures { λ q. ⌜ ImagePut f r q (now (sections .entry)) (now (sections .exit)) (now (bytes .entry)) (now (bytes .exit)) (now (outcomes .entry)) (now (outcomes .exit)) ⌝ }
+    requires fit { ⌜ (r .sections ≤ length (now sections)) ×
+        (r .bytes ≤ length (now bytes)) ×
+        (r .outcomes ≤ length (now outcomes)) ⌝ }
+    ensures { λ q.
+        ⌜ ImagePut f r q (now (sections .entry)) (now (sections .exit)) (now (bytes .entry)) (now (bytes .exit))
+        (now (outcomes .entry)) (now (outcomes .exit)) ⌝ }
 {
     let mut q = put_word(r, sections, bytes, f.first, 1);
     if q.ok {
@@ -68,7 +73,7 @@ fn put_told(r: Reading, outcomes: &mut [u32; 6144], f: Frame) -> Reading
         return q;
     }
     if f.kind == 4 {
-        q.ok = frames::outcomes::set_table(outcomes, r.outcomes, f.first, f.second);
+        q.ok = frames::outcomes::set_jump_table_reference(outcomes, r.outcomes, f.first, f.second);
         return q;
     }
     q.ok = frames::outcomes::add_branch(outcomes, r.outcomes, f.first, f.second, f.third);
@@ -85,8 +90,12 @@ pub fn put_image(
 ) -> Reading
     requires going { ⌜ (r .ok ≡ true) × (1 ≤ f .kind) × (f .kind ≤ 5) ⌝ }
     requires small { ⌜ (f .kind ≡ 5 → (f .first ≤ 1) × (f .second ≤ 2)) ⌝ }
-    requires fit { ⌜ (r .sections ≤ length (now sections)) × (r .bytes ≤ length (now bytes)) × (r .outcomes ≤ length (now outcomes)) ⌝ }
-    ensures { λ q. ⌜ ImagePut f r q (now (sections .entry)) (now (sections .exit)) (now (bytes .entry)) (now (bytes .exit)) (now (outcomes .entry)) (now (outcomes .exit)) ⌝ }
+    requires fit { ⌜ (r .sections ≤ length (now sections)) ×
+        (r .bytes ≤ length (now bytes)) ×
+        (r .outcomes ≤ length (now outcomes)) ⌝ }
+    ensures { λ q.
+        ⌜ ImagePut f r q (now (sections .entry)) (now (sections .exit)) (now (bytes .entry)) (now (bytes .exit))
+        (now (outcomes .entry)) (now (outcomes .exit)) ⌝ }
 {
     if f.kind == 1 {
         let c = frames::rows::add_four(sections, r.sections, 32, f.first, f.second, f.third, 0);

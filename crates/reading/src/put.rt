@@ -22,7 +22,11 @@ pub fn put_frame(
 ) -> Reading
     requires small { ⌜ (f .kind ≡ 5 → (f .first ≤ 1) × (f .second ≤ 2)) ⌝ }
     requires fit { ⌜ Fit r (now sections) (now bytes) (now outcomes) (now functions) (now objects) (now skips) (now entry) ⌝ }
-    ensures { λ q. ⌜ FramePut f r q (now (sections .entry)) (now (sections .exit)) (now (bytes .entry)) (now (bytes .exit)) (now (outcomes .entry)) (now (outcomes .exit)) (now (functions .entry)) (now (functions .exit)) (now (objects .entry)) (now (objects .exit)) (now (skips .entry)) (now (skips .exit)) (now (entry .entry)) (now (entry .exit)) ⌝ }
+    ensures { λ q.
+        ⌜ FramePut f r q (now (sections .entry)) (now (sections .exit)) (now (bytes .entry)) (now (bytes .exit))
+        (now (outcomes .entry)) (now (outcomes .exit)) (now (functions .entry)) (now (functions .exit))
+        (now (objects .entry)) (now (objects .exit)) (now (skips .entry)) (now (skips .exit)) (now (entry .entry))
+        (now (entry .exit)) ⌝ }
 {
     let mut q = r;
     q.ok = false;

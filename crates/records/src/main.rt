@@ -17,7 +17,7 @@
 ghost use mathlib.Core.Path.{_≡_};
 ghost use Rattle.records_blocks.specs.Records.{mark-records, cut-records, list-of, IsDone};
 ghost use Rattle.records_pending.specs.Record.{IsPushed, IsPopped};
-use lists::places;
+use function_slices::places;
 use marks::Marking;
 use records_blocks::Block;
 use records_blocks::Done;
@@ -38,34 +38,36 @@ pub struct Took {
 
 // Records lent for a call, by value: the table and the answer of a mark or a cut, the list and the answer of a push or a pop. The answer
 // of a mark or a cut is a local before it is given back, as the table is: so one walk proves all four.
-fn mark_table(t: [Block; 260], count: usize, addr: u64) -> [Block; 260]
-    ensures { λ r. ⌜ r ≡ list-of t (mark-records count addr t) ⌝ }
+fn mark_table(table: [Block; 260], count: usize, addr: u64) -> [Block; 260]
+    ensures { λ r. ⌜ r ≡ list-of table (mark-records count addr table) ⌝ }
 {
-    let mut q = t;
+    let mut q = table;
     records_blocks::mark(&mut q, count, addr);
     q
 }
 
-fn mark_done(t: [Block; 260], count: usize, addr: u64) -> Done
-    ensures { λ r. ⌜ IsDone (mark-records count addr t) count t (list-of t (mark-records count addr t)) r ⌝ }
+fn mark_done(table: [Block; 260], count: usize, addr: u64) -> Done
+    ensures { λ r.
+        ⌜ IsDone (mark-records count addr table) count table (list-of table (mark-records count addr table)) r ⌝ }
 {
-    let mut q = t;
+    let mut q = table;
     let d = records_blocks::mark(&mut q, count, addr);
     d
 }
 
-fn cut_table(t: [Block; 260], count: usize, addr: u64) -> [Block; 260]
-    ensures { λ r. ⌜ r ≡ list-of t (cut-records count addr t) ⌝ }
+fn cut_table(table: [Block; 260], count: usize, addr: u64) -> [Block; 260]
+    ensures { λ r. ⌜ r ≡ list-of table (cut-records count addr table) ⌝ }
 {
-    let mut q = t;
+    let mut q = table;
     records_blocks::cut(&mut q, count, addr);
     q
 }
 
-fn cut_done(t: [Block; 260], count: usize, addr: u64) -> Done
-    ensures { λ r. ⌜ IsDone (cut-records count addr t) count t (list-of t (cut-records count addr t)) r ⌝ }
+fn cut_done(table: [Block; 260], count: usize, addr: u64) -> Done
+    ensures { λ r.
+        ⌜ IsDone (cut-records count addr table) count table (list-of table (cut-records count addr table)) r ⌝ }
 {
-    let mut q = t;
+    let mut q = table;
     let d = records_blocks::cut(&mut q, count, addr);
     d
 }
@@ -128,16 +130,16 @@ fn none_pending() -> Lists {
 }
 
 // A sum that takes the order into account.
-fn mix(h: u64, v: u64) -> u64 {
-    let x = (h % 0x1_0000_0000) * 31 + v / 0x1_0000_0000;
-    (x % 0x1_0000_0000) * 31 + v % 0x1_0000_0000
+fn mix(h: u64, value: u64) -> u64 {
+    let x = (h % 0x1_0000_0000) * 31 + value / 0x1_0000_0000;
+    (x % 0x1_0000_0000) * 31 + value % 0x1_0000_0000
 }
 
-fn sum_of_records(t: [Block; 260]) -> u64 {
+fn sum_of_records(table: [Block; 260]) -> u64 {
     let mut h: u64 = 0;
     let mut i: usize = 0;
     while i < 260 {
-        h = mix(mix(h, t[i].start), t[i].end);
+        h = mix(mix(h, table[i].start), table[i].end);
         i += 1;
     }
     h
@@ -163,24 +165,24 @@ fn sum_of_list(p: [u64; 256]) -> u64 {
     h
 }
 
-fn sum_of_keys(k: [u64; places::KEYS]) -> u64 {
+fn sum_of_keys(keys: [u64; places::KEYS]) -> u64 {
     let mut h: u64 = 0;
     let mut i: usize = places::AT_PENDING;
     while i < places::KEYS {
-        h = mix(h, k[i]);
+        h = mix(h, keys[i]);
         i += 1;
     }
     h
 }
 
 // Whether every row is the same in both.
-fn is_same_table(t: [Block; 260], ss: [u64; 260], es: [u64; 260]) -> bool {
+fn is_same_table(table: [Block; 260], ss: [u64; 260], es: [u64; 260]) -> bool {
     let mut i: usize = 0;
     while i < 260 {
-        if t[i].start != ss[i] {
+        if table[i].start != ss[i] {
             return false;
         }
-        if t[i].end != es[i] {
+        if table[i].end != es[i] {
             return false;
         }
         i += 1;
@@ -189,10 +191,10 @@ fn is_same_table(t: [Block; 260], ss: [u64; 260], es: [u64; 260]) -> bool {
 }
 
 // Whether every address is the same in both.
-fn is_same_list(p: [u64; 256], k: [u64; places::KEYS]) -> bool {
+fn is_same_list(p: [u64; 256], keys: [u64; places::KEYS]) -> bool {
     let mut i: usize = 0;
     while i < 256 {
-        if p[i] != k[places::AT_PENDING + i] {
+        if p[i] != keys[places::AT_PENDING + i] {
             return false;
         }
         i += 1;
@@ -200,8 +202,8 @@ fn is_same_list(p: [u64; 256], k: [u64; places::KEYS]) -> bool {
     true
 }
 
-fn wide(n: u32) -> u64 {
-    n as u64
+fn wide(number: u32) -> u64 {
+    number as u64
 }
 
 fn print_digit(b: bool) {
@@ -230,10 +232,10 @@ fn counted(apart: u64, same: bool) -> u64 {
 
 // ---- the table
 
-fn told_table(t: Tables, d: Done, m: Marking) -> Tables {
-    let records = t.records;
-    let starts = t.starts;
-    let ends = t.ends;
+fn told_table(table: Tables, d: Done, m: Marking) -> Tables {
+    let records = table.records;
+    let starts = table.starts;
+    let ends = table.ends;
     print_answer(wide(d.number), d.yes, d.count, sum_of_records(records));
     io::write_all(1, b" | ");
     print_answer(wide(m.number), m.new, m.count, sum_of_columns(starts, ends));
@@ -246,7 +248,7 @@ fn told_table(t: Tables, d: Done, m: Marking) -> Tables {
         starts,
         ends,
         blocks: m.count,
-        apart: counted(t.apart, same && rows),
+        apart: counted(table.apart, same && rows),
     }
 }
 
@@ -257,36 +259,36 @@ struct Core {
     done: Marking,
 }
 
-fn core_mark(t: Tables, addr: u64) -> Core {
-    let mut starts = t.starts;
-    let mut ends = t.ends;
-    let done = marks::mark(&mut starts, &mut ends, t.blocks, addr);
+fn core_mark(table: Tables, addr: u64) -> Core {
+    let mut starts = table.starts;
+    let mut ends = table.ends;
+    let done = marks::mark(&mut starts, &mut ends, table.blocks, addr);
     Core { starts, ends, done }
 }
 
-fn mark_both(t: Tables, addr: u64) -> Tables {
-    let before = t.records;
-    let d = mark_done(before, t.count, addr);
-    let records = mark_table(before, t.count, addr);
-    let c = core_mark(t, addr);
+fn mark_both(table: Tables, addr: u64) -> Tables {
+    let before = table.records;
+    let d = mark_done(before, table.count, addr);
+    let records = mark_table(before, table.count, addr);
+    let c = core_mark(table, addr);
     let starts = c.starts;
     let ends = c.ends;
     let done = c.done;
     io::write_all(1, b"m ");
     let after = Tables {
         records,
-        count: t.count,
+        count: table.count,
         starts,
         ends,
-        blocks: t.blocks,
-        apart: t.apart,
+        blocks: table.blocks,
+        apart: table.apart,
     };
     told_table(after, d, done)
 }
 
 // What the core says of a mark where a cut was made or refused: yes where the mark opened no block.
-fn core_cut(t: Tables, records: [Block; 260], d: Done, addr: u64) -> Tables {
-    let c = core_mark(t, addr);
+fn core_cut(table: Tables, records: [Block; 260], d: Done, addr: u64) -> Tables {
+    let c = core_mark(table, addr);
     let starts = c.starts;
     let ends = c.ends;
     let done = c.done;
@@ -297,44 +299,44 @@ fn core_cut(t: Tables, records: [Block; 260], d: Done, addr: u64) -> Tables {
     };
     let after = Tables {
         records,
-        count: t.count,
+        count: table.count,
         starts,
         ends,
-        blocks: t.blocks,
-        apart: t.apart,
+        blocks: table.blocks,
+        apart: table.apart,
     };
     told_table(after, d, made)
 }
 
-fn cut_both(t: Tables, addr: u64) -> Tables {
-    let before = t.records;
-    let d = cut_done(before, t.count, addr);
-    let records = cut_table(before, t.count, addr);
+fn cut_both(table: Tables, addr: u64) -> Tables {
+    let before = table.records;
+    let d = cut_done(before, table.count, addr);
+    let records = cut_table(before, table.count, addr);
     io::write_all(1, b"c ");
     if d.yes || d.number != 0 {
-        return core_cut(t, records, d, addr);
+        return core_cut(table, records, d, addr);
     }
-    let starts = t.starts;
-    let ends = t.ends;
+    let starts = table.starts;
+    let ends = table.ends;
     let none = Marking {
         number: 0,
-        count: t.blocks,
+        count: table.blocks,
         new: false,
     };
     let after = Tables {
         records,
-        count: t.count,
+        count: table.count,
         starts,
         ends,
-        blocks: t.blocks,
-        apart: t.apart,
+        blocks: table.blocks,
+        apart: table.apart,
     };
     told_table(after, d, none)
 }
 
-fn put_row(t: Tables, start: u64, end: u64) -> Tables {
-    let n = t.count;
-    let mut r = t;
+fn put_row(table: Tables, start: u64, end: u64) -> Tables {
+    let n = table.count;
+    let mut r = table;
     if n < 260 {
         let b = Block { start, end };
         r.records[n] = b;
@@ -346,10 +348,10 @@ fn put_row(t: Tables, start: u64, end: u64) -> Tables {
     r
 }
 
-fn count_set(t: Tables, n: usize) -> Tables {
-    let mut r = t;
-    r.count = n;
-    r.blocks = n;
+fn count_set(table: Tables, count: usize) -> Tables {
+    let mut r = table;
+    r.count = count;
+    r.blocks = count;
     r
 }
 
@@ -361,57 +363,57 @@ struct Told {
     addr: u64,
 }
 
-fn told_list(s: Lists, r: Told, c: Told) -> Lists {
-    let addresses = s.addresses;
-    let keys = s.keys;
-    print_answer(r.addr, r.yes, s.count, sum_of_list(addresses));
+fn told_list(lists: Lists, r: Told, c: Told) -> Lists {
+    let addresses = lists.addresses;
+    let keys = lists.keys;
+    print_answer(r.addr, r.yes, lists.count, sum_of_list(addresses));
     io::write_all(1, b" | ");
-    print_answer(c.addr, c.yes, s.pending, sum_of_keys(keys));
+    print_answer(c.addr, c.yes, lists.pending, sum_of_keys(keys));
     io::write_all(1, b"\n");
-    let same = r.yes == c.yes && r.addr == c.addr && s.count == s.pending;
+    let same = r.yes == c.yes && r.addr == c.addr && lists.count == lists.pending;
     let all = is_same_list(addresses, keys);
     Lists {
         addresses,
-        count: s.count,
+        count: lists.count,
         keys,
-        pending: s.pending,
-        apart: counted(s.apart, same && all),
+        pending: lists.pending,
+        apart: counted(lists.apart, same && all),
     }
 }
 
-fn with_record(s: Lists, p: Pending) -> Lists {
+fn with_record(lists: Lists, p: Pending) -> Lists {
     let addresses = p.addresses;
-    let keys = s.keys;
+    let keys = lists.keys;
     Lists {
         addresses,
         count: p.count,
         keys,
-        pending: s.pending,
-        apart: s.apart,
+        pending: lists.pending,
+        apart: lists.apart,
     }
 }
 
-fn record_of(s: Lists) -> Pending {
-    let addresses = s.addresses;
+fn record_of(lists: Lists) -> Pending {
+    let addresses = lists.addresses;
     Pending {
         addresses,
-        count: s.count,
+        count: lists.count,
     }
 }
 
 // The core's push, where its count allows one.
-fn core_push(s: Lists, addr: u64, r: Told) -> Lists {
-    let n = s.pending;
+fn core_push(lists: Lists, addr: u64, r: Told) -> Lists {
+    let n = lists.pending;
     if n <= 256 {
-        let mut keys = s.keys;
+        let mut keys = lists.keys;
         let c = executor::push(&mut keys, n, addr);
-        let addresses = s.addresses;
+        let addresses = lists.addresses;
         let after = Lists {
             addresses,
-            count: s.count,
+            count: lists.count,
             keys,
             pending: c.count,
-            apart: s.apart,
+            apart: lists.apart,
         };
         let told = Told {
             yes: c.fault == 0,
@@ -420,7 +422,7 @@ fn core_push(s: Lists, addr: u64, r: Told) -> Lists {
         return told_list(after, r, told);
     }
     told_list(
-        s,
+        lists,
         r,
         Told {
             yes: false,
@@ -429,19 +431,19 @@ fn core_push(s: Lists, addr: u64, r: Told) -> Lists {
     )
 }
 
-fn push_both(s: Lists, addr: u64) -> Lists {
-    let p = push_in(record_of(s), addr);
+fn push_both(lists: Lists, addr: u64) -> Lists {
+    let p = push_in(record_of(lists), addr);
     let list = p.list;
     io::write_all(1, b"p ");
     let told = Told {
         yes: p.done,
         addr: 0,
     };
-    core_push(with_record(s, list), addr, told)
+    core_push(with_record(lists, list), addr, told)
 }
 
-fn told_of(t: Popped) -> Told {
-    match t {
+fn told_of(popped: Popped) -> Told {
+    match popped {
         Popped::At(a) => Told { yes: true, addr: a },
         Popped::Empty => Told {
             yes: false,
@@ -451,13 +453,13 @@ fn told_of(t: Popped) -> Told {
 }
 
 // The core's pop, where its count allows one.
-fn core_pop(s: Lists, r: Told) -> Lists {
-    let n = s.pending;
+fn core_pop(lists: Lists, r: Told) -> Lists {
+    let n = lists.pending;
     if 0 < n {
         if n <= 256 {
-            let keys = s.keys;
+            let keys = lists.keys;
             let c = executor::pop(&keys, n);
-            let mut after = s;
+            let mut after = lists;
             after.pending = c.count;
             let told = Told {
                 yes: true,
@@ -467,7 +469,7 @@ fn core_pop(s: Lists, r: Told) -> Lists {
         }
     }
     told_list(
-        s,
+        lists,
         r,
         Told {
             yes: false,
@@ -476,18 +478,18 @@ fn core_pop(s: Lists, r: Told) -> Lists {
     )
 }
 
-fn pop_both(s: Lists) -> Lists {
-    let p = pop_in(record_of(s));
+fn pop_both(lists: Lists) -> Lists {
+    let p = pop_in(record_of(lists));
     let list = p.list;
     let top = p.top;
     io::write_all(1, b"o ");
-    core_pop(with_record(s, list), told_of(top))
+    core_pop(with_record(lists, list), told_of(top))
 }
 
-fn pending_set(s: Lists, n: usize) -> Lists {
-    let mut r = s;
-    r.count = n;
-    r.pending = n;
+fn pending_set(lists: Lists, count: usize) -> Lists {
+    let mut r = lists;
+    r.count = count;
+    r.pending = count;
     r
 }
 
@@ -510,32 +512,32 @@ fn fresh() -> Line {
     }
 }
 
-fn small(v: u64) -> usize {
-    if v < 1000 {
-        return v as usize;
+fn small(value: u64) -> usize {
+    if value < 1000 {
+        return value as usize;
     }
     1000
 }
 
-fn table_line(t: Tables, l: Line) -> Tables {
+fn table_line(table: Tables, l: Line) -> Tables {
     let letter = l.letter;
     match letter {
-        b'm' => mark_both(t, l.first),
-        b'c' => cut_both(t, l.first),
-        b'r' => put_row(t, l.first, l.second),
-        b'n' => count_set(t, small(l.first)),
-        b'z' => no_blocks(t.apart),
-        _ => t,
+        b'm' => mark_both(table, l.first),
+        b'c' => cut_both(table, l.first),
+        b'r' => put_row(table, l.first, l.second),
+        b'n' => count_set(table, small(l.first)),
+        b'z' => no_blocks(table.apart),
+        _ => table,
     }
 }
 
-fn list_line(s: Lists, l: Line) -> Lists {
+fn list_line(lists: Lists, l: Line) -> Lists {
     let letter = l.letter;
     match letter {
-        b'p' => push_both(s, l.first),
-        b'o' => pop_both(s),
-        b'q' => pending_set(s, small(l.first)),
-        _ => s,
+        b'p' => push_both(lists, l.first),
+        b'o' => pop_both(lists),
+        b'q' => pending_set(lists, small(l.first)),
+        _ => lists,
     }
 }
 

@@ -22,11 +22,11 @@ struct Check {
 }
 
 // One more block.
-fn check_next(k: Check, b: Block) -> Check
-    ensures { λ r. ⌜ r ≡ checked k b ⌝ }
+fn check_next(check: Check, b: Block) -> Check
+    ensures { λ r. ⌜ r ≡ checked check b ⌝ }
 {
-    if k.sound {
-        if k.least <= b.start {
+    if check.sound {
+        if check.least <= b.start {
             if is_block(b.start, b.end) {
                 return Check {
                     least: b.start + 1,
@@ -36,7 +36,7 @@ fn check_next(k: Check, b: Block) -> Check
         }
     }
     Check {
-        least: k.least,
+        least: check.least,
         sound: false,
     }
 }
@@ -123,14 +123,15 @@ fn turn(c: Carry, i: usize, b: Block) -> Carry
     move_on(d, i, b)
 }
 
-// The first n blocks are gone through, each read and written back.
-fn sweep(blocks: &mut [Block], n: usize, c: Carry) -> Carry
-    requires { ⌜ n ≤ length (now blocks) ⌝ }
-    ensures { λ r. ⌜ (r ≡ after n 0 c (now (blocks .entry))) × (now (blocks .exit) ≡ swept n 0 c (now (blocks .entry))) ⌝ }
+// The first `count` blocks are gone through, each read and written back.
+fn sweep(blocks: &mut [Block], count: usize, c: Carry) -> Carry
+    requires { ⌜ count ≤ length (now blocks) ⌝ }
+    ensures { λ r.
+        ⌜ (r ≡ after count 0 c (now (blocks .entry))) × (now (blocks .exit) ≡ swept count 0 c (now (blocks .entry))) ⌝ }
 {
     let mut d = c;
     let mut i: usize = 0;
-    while i < n {
+    while i < count {
         d = turn(d, i, blocks[i]);
         blocks[i] = d.out;
         i += 1;
@@ -311,7 +312,9 @@ fn decide(only: bool, len: usize, count: usize, c: Carry) -> Plan
 
 // One sweep that looks, and one that does what is then decided: `only` cuts, and opens no block.
 fn work(blocks: &mut [Block], only: bool, count: usize, addr: u64) -> Done
-    ensures { λ r. ⌜ IsDone (change-records only count addr (now (blocks .entry))) count (now (blocks .entry)) (now (blocks .exit)) r ⌝ }
+    ensures { λ r.
+        ⌜ IsDone (change-records only count addr (now (blocks .entry))) count (now (blocks .entry)) (now (blocks .exit))
+        r ⌝ }
 {
     let p = look(blocks.len(), count, addr);
     let c = sweep(blocks, p.n, p.carry);
@@ -323,14 +326,16 @@ fn work(blocks: &mut [Block], only: bool, count: usize, addr: u64) -> Done
 // Marks addr as the start of a block: a block that reaches over it is cut there; else an open block starts there, unless one does. 3
 // where the table or addr breaks a rule, 4 where the table is full. The answer is yes where a new open block starts.
 pub fn mark(blocks: &mut [Block], count: usize, addr: u64) -> Done
-    ensures { λ r. ⌜ IsDone (mark-records count addr (now (blocks .entry))) count (now (blocks .entry)) (now (blocks .exit)) r ⌝ }
+    ensures { λ r.
+        ⌜ IsDone (mark-records count addr (now (blocks .entry))) count (now (blocks .entry)) (now (blocks .exit)) r ⌝ }
 {
     work(blocks, false, count, addr)
 }
 
 // Cuts the block that reaches over addr, if one does, with the checks of a mark. The answer is yes where one was cut.
 pub fn cut(blocks: &mut [Block], count: usize, addr: u64) -> Done
-    ensures { λ r. ⌜ IsDone (cut-records count addr (now (blocks .entry))) count (now (blocks .entry)) (now (blocks .exit)) r ⌝ }
+    ensures { λ r.
+        ⌜ IsDone (cut-records count addr (now (blocks .entry))) count (now (blocks .entry)) (now (blocks .exit)) r ⌝ }
 {
     work(blocks, true, count, addr)
 }

@@ -13,12 +13,14 @@ pub struct Pending {
     pub count: usize,
 }
 
-// Puts addr among the first n elements, which ascend; behind its equals. What lies past them stays.
-fn insert(a: &mut [u64; 256], n: usize, addr: u64)
-    requires { ⌜ (n < 256) × (length (now a) ≡ 256) ⌝ }
-    ensures { λ _. ⌜ (stack (now (a .exit)) (n + 1) ≡ insert addr (stack (now (a .entry)) n)) × (drop (n + 1) (now (a .exit)) ≡ drop (n + 1) (now (a .entry))) ⌝ }
+// Puts addr among the first `count` elements, which ascend; behind its equals. What lies past them stays.
+fn insert(a: &mut [u64; 256], count: usize, addr: u64)
+    requires { ⌜ (count < 256) × (length (now a) ≡ 256) ⌝ }
+    ensures { λ _.
+        ⌜ (stack (now (a .exit)) (count + 1) ≡ insert addr (stack (now (a .entry)) count)) ×
+        (drop (count + 1) (now (a .exit)) ≡ drop (count + 1) (now (a .entry))) ⌝ }
 {
-    let mut k = n;
+    let mut k = count;
     while 0 < k && addr < a[k - 1] {
         a[k] = a[k - 1];
         k -= 1;
@@ -32,21 +34,18 @@ struct Added {
 }
 
 // The work of push, on the array and the count.
-fn add(a: &mut [u64; 256], n: usize, addr: u64) -> Added
+fn add(a: &mut [u64; 256], count: usize, addr: u64) -> Added
     requires { ⌜ length (now a) ≡ 256 ⌝ }
-    ensures { λ r. ⌜ IsAdded (now (a .entry)) n addr (now (a .exit)) r ⌝ }
+    ensures { λ r. ⌜ IsAdded (now (a .entry)) count addr (now (a .exit)) r ⌝ }
 {
-    if n < 256 {
-        insert(a, n, addr);
+    if count < 256 {
+        insert(a, count, addr);
         return Added {
-            count: n + 1,
+            count: count + 1,
             done: true,
         };
     }
-    Added {
-        count: n,
-        done: false,
-    }
+    Added { count, done: false }
 }
 
 // The highest pending address, or none.
@@ -61,16 +60,16 @@ struct Taken {
 }
 
 // The work of pop, on the array and the count.
-fn take(a: &mut [u64; 256], n: usize) -> Taken
-    ensures { λ r. ⌜ (now (a .exit) ≡ now (a .entry)) × IsTaken (now (a .entry)) n r ⌝ }
+fn take(a: &mut [u64; 256], count: usize) -> Taken
+    ensures { λ r. ⌜ (now (a .exit) ≡ now (a .entry)) × IsTaken (now (a .entry)) count r ⌝ }
 {
-    if n == 0 {
+    if count == 0 {
         return Taken {
             count: 0,
             top: Popped::Empty,
         };
     }
-    let k = n - 1;
+    let k = count - 1;
     if k < 256 {
         return Taken {
             count: k,
@@ -78,7 +77,7 @@ fn take(a: &mut [u64; 256], n: usize) -> Taken
         };
     }
     Taken {
-        count: n,
+        count,
         top: Popped::Empty,
     }
 }

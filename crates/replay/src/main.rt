@@ -34,12 +34,12 @@ fn map_one(image: &[u8], out: &mut Out) -> usize
     mapping::fmap_text(image, out)
 }
 
-// The first n bytes to standard output. Nothing can be said of what is written.
-fn write_text(out: &Out, n: usize)
-    requires { ⌜ n ≤ length (now out) ⌝ }
+// The first `count` bytes to standard output. Nothing can be said of what is written.
+fn write_text(out: &Out, count: usize)
+    requires { ⌜ count ≤ length (now out) ⌝ }
 {
     let all: &[u8] = out;
-    io::write_all(1, &all[0..n]);
+    io::write_all(1, &all[0..count]);
 }
 
 fn answer(image: &[u8], out: &mut Out)
@@ -72,12 +72,12 @@ fn answer_ended(text: &[u8], out: &mut Out) -> usize
 // ---- the text that is read
 
 // The bytes from a place up to another one moved to the text's front.
-fn move_down(text: &mut [u8], at: usize, n: usize)
-    requires { ⌜ (at ≤ n) × (n ≤ length (now text)) ⌝ }
-    ensures { λ _. ⌜ now (text .exit) ≡ paste (now (text .entry)) 0 (drop at (now (text .entry))) (n - at) ⌝ }
+fn move_down(text: &mut [u8], at: usize, count: usize)
+    requires { ⌜ (at ≤ count) × (count ≤ length (now text)) ⌝ }
+    ensures { λ _. ⌜ now (text .exit) ≡ paste (now (text .entry)) 0 (drop at (now (text .entry))) (count - at) ⌝ }
 {
     let mut i: usize = 0;
-    while i < n - at {
+    while i < count - at {
         text[i] = text[at + i];
         i += 1;
     }
@@ -85,41 +85,42 @@ fn move_down(text: &mut [u8], at: usize, n: usize)
 
 // What is left of the text behind the images that were answered, at its front. Too much for an image is refused whatever comes; it is cut
 // down to a line that is no frame, which is refused too, and the last two bytes, with which a line `=` may begin.
-fn keep_rest(text: &mut [u8], at: usize, n: usize) -> usize
-    requires { ⌜ (at ≤ n) × (n ≤ length (now text)) ⌝ }
-    ensures { λ r. ⌜ Kept at n (now (text .entry)) (now (text .exit)) r ⌝ }
+fn keep_rest(text: &mut [u8], at: usize, count: usize) -> usize
+    requires { ⌜ (at ≤ count) × (count ≤ length (now text)) ⌝ }
+    ensures { λ r. ⌜ Kept at count (now (text .entry)) (now (text .exit)) r ⌝ }
 {
-    if n - at < 1048576 {
-        move_down(text, at, n);
-        return n - at;
+    if count - at < 1048576 {
+        move_down(text, at, count);
+        return count - at;
     }
-    let a = text[n - 2];
-    let b = text[n - 1];
+    let a = text[count - 2];
+    let b = text[count - 1];
     text[0] = b'?';
     text[1] = a;
     text[2] = b;
     3
 }
 
-// Standard input read behind the first n bytes, to its end or as far as there is room; how many bytes there are then.
-fn fill(text: &mut [u8], n: usize) -> usize
-    requires { ⌜ n ≤ length (now text) ⌝ }
-    ensures { λ r. ⌜ (r ≤ length (now (text .exit))) × (take n (now (text .exit)) ≡ take n (now (text .entry))) ⌝ }
+// Standard input read behind the first `count` bytes, to its end or as far as there is room; how many bytes there are then.
+fn fill(text: &mut [u8], count: usize) -> usize
+    requires { ⌜ count ≤ length (now text) ⌝ }
+    ensures { λ r.
+        ⌜ (r ≤ length (now (text .exit))) × (take count (now (text .exit)) ≡ take count (now (text .entry))) ⌝ }
 {
-    let got = io::read_full(0, &mut text[n..]);
-    n + got
+    let got = io::read_full(0, &mut text[count..]);
+    count + got
 }
 
 // ---- all of it
 
 // More of the input, and the images in it that are ended answered.
-fn replay_more(text: &mut [u8], out: &mut Out, n: usize) -> Read
-    requires { ⌜ (length (now text) ≡ 1114112) × (length (now out) ≡ 1489000) × (n ≤ 1048576) ⌝ }
+fn replay_more(text: &mut [u8], out: &mut Out, count: usize) -> Read
+    requires { ⌜ (length (now text) ≡ 1114112) × (length (now out) ≡ 1489000) × (count ≤ 1048576) ⌝ }
     ensures { λ r. ⌜ (length (now (out .exit)) ≡ 1489000) × (r .n ≤ 1048576) ⌝ }
 {
-    let m = fill(text, n);
-    if m == n {
-        return Read { n, more: false };
+    let m = fill(text, count);
+    if m == count {
+        return Read { count, more: false };
     }
     let at = answer_ended(&text[0..m], out);
     let rest = keep_rest(text, at, m);
@@ -130,25 +131,25 @@ fn replay_more(text: &mut [u8], out: &mut Out, n: usize) -> Read
 }
 
 // A newline behind a last byte `=`, so that this may be a line `=` too.
-fn end_line(text: &mut [u8], n: usize) -> usize
-    requires { ⌜ n < length (now text) ⌝ }
-    ensures { λ r. ⌜ LineEnded n (now (text .entry)) (now (text .exit)) r ⌝ }
+fn end_line(text: &mut [u8], count: usize) -> usize
+    requires { ⌜ count < length (now text) ⌝ }
+    ensures { λ r. ⌜ LineEnded count (now (text .entry)) (now (text .exit)) r ⌝ }
 {
-    if n == 0 {
-        return n;
+    if count == 0 {
+        return count;
     }
-    if text[n - 1] == b'=' {
-        text[n] = b'\n';
-        return n + 1;
+    if text[count - 1] == b'=' {
+        text[count] = b'\n';
+        return count + 1;
     }
-    n
+    count
 }
 
-// The last n bytes of the input.
-fn replay_last(text: &mut [u8], out: &mut Out, n: usize)
-    requires { ⌜ (n < length (now text)) × (length (now out) ≡ 1489000) ⌝ }
+// The last `count` bytes of the input.
+fn replay_last(text: &mut [u8], out: &mut Out, count: usize)
+    requires { ⌜ (count < length (now text)) × (length (now out) ≡ 1489000) ⌝ }
 {
-    let m = end_line(text, n);
+    let m = end_line(text, count);
     let at = answer_ended(&text[0..m], out);
     if at < m {
         answer(&text[at..m], out);

@@ -5,12 +5,20 @@ ghost use Prim.Native.Nat.{_+_, _*_, _≤_, _<_};
 ghost use lib.ListN.{length, take, drop, getD};
 ghost use Rattle.rules.specs.Known.{Entry};
 ghost use Rattle.entries.specs.Table.{Holds, Good, KNOWN, INFOS};
-ghost use Rattle.results.specs.Rows.{padded, RowPut, RowsAre, Results};
+ghost use Rattle.runs.specs.Runs.{padded};
+ghost use Rattle.results.specs.Rows.{RowPut, RowsAre, Results};
 
 // The row of entry i.
 fn put_row(rows: &mut [u64], known: &[u64], infos: &[u64], i: usize)
-    requires { ⌜ (length (now known) ≡ KNOWN) × (length (now infos) ≡ INFOS) × (i < 1024) × (i * 10 + 10 ≤ length (now rows)) ⌝ }
-    ensures { λ _. ⌜ RowPut (i * 10) (getD (now (known .entry)) i 0 ∷ getD (now (known .entry)) (1024 + i) 0 ∷ take 8 (drop (i * 8) (now (infos .entry)))) (now (rows .entry)) (now (rows .exit)) ⌝ }
+    requires { ⌜ (length (now known) ≡ KNOWN) ×
+        (length (now infos) ≡ INFOS) ×
+        (i < 1024) ×
+        (i * 10 + 10 ≤ length (now rows)) ⌝ }
+    ensures { λ _.
+        ⌜ RowPut (i * 10)
+        (getD (now (known .entry)) i 0 ∷ getD (now (known .entry)) (1024 + i) 0 ∷ take 8
+        (drop (i * 8) (now (infos .entry))))
+        (now (rows .entry)) (now (rows .exit)) ⌝ }
 {
     let p = i * 10;
     let a = i * 8;
@@ -20,18 +28,21 @@ fn put_row(rows: &mut [u64], known: &[u64], infos: &[u64], i: usize)
     runs::copy_in(rows, p + 2, &infos[a..b], 8);
 }
 
-// The rows of all n entries, and zeros past them.
-fn put_rows(known: &[u64], infos: &[u64], lists: &[u64], n: usize, rows: &mut [u64])
-    requires good { ⌜ Good n (now known) (now infos) (now lists) ⌝ }
-    requires room { ⌜ n * 10 ≤ length (now rows) ⌝ }
-    ensures { λ _. ⌜ ((es : List Entry) → Holds n (now (known .entry)) (now (infos .entry)) (now (lists .entry)) es → RowsAre es (now (rows .entry)) (now (rows .exit))) ⌝ }
+// The rows of all `count` entries, and zeros past them.
+fn put_rows(known: &[u64], infos: &[u64], lists: &[u64], count: usize, rows: &mut [u64])
+    requires good { ⌜ Good count (now known) (now infos) (now lists) ⌝ }
+    requires room { ⌜ count * 10 ≤ length (now rows) ⌝ }
+    ensures { λ _.
+        ⌜ ((es : List Entry) →
+        Holds count (now (known .entry)) (now (infos .entry)) (now (lists .entry)) es →
+        RowsAre es (now (rows .entry)) (now (rows .exit))) ⌝ }
 {
     let mut i: usize = 0;
-    while i < n {
+    while i < count {
         put_row(rows, known, infos, i);
         i += 1;
     }
-    clear(rows, n * 10);
+    clear(rows, count * 10);
 }
 
 // Zeros from at on.
@@ -43,21 +54,24 @@ pub fn clear(xs: &mut [u64], at: usize)
     runs::fill(xs, at, 0, n);
 }
 
-// The n entries put into the result lists, of which `lists` holds the numbers already; how many numbers there are.
+// The `count` entries put into the result lists, of which `lists` holds the numbers already; how many numbers there are.
 pub fn put_results(
     known: &[u64],
     infos: &[u64],
-    n: usize,
+    count: usize,
     rows: &mut [u64],
     lists: &mut [u64],
 ) -> usize
-    requires good { ⌜ Good n (now known) (now infos) (now lists) ⌝ }
-    requires room { ⌜ n * 10 ≤ length (now rows) ⌝ }
-    ensures { λ r. ⌜ ((es : List Entry) → Holds n (now (known .entry)) (now (infos .entry)) (now (lists .entry)) es → Results es (now (rows .entry)) (now (lists .entry)) (now (rows .exit)) (now (lists .exit)) r) ⌝ }
+    requires good { ⌜ Good count (now known) (now infos) (now lists) ⌝ }
+    requires room { ⌜ count * 10 ≤ length (now rows) ⌝ }
+    ensures { λ r.
+        ⌜ ((es : List Entry) →
+        Holds count (now (known .entry)) (now (infos .entry)) (now (lists .entry)) es →
+        Results es (now (rows .entry)) (now (lists .entry)) (now (rows .exit)) (now (lists .exit)) r) ⌝ }
 {
-    put_rows(known, infos, lists, n, rows);
+    put_rows(known, infos, lists, count, rows);
     let room = lists.len();
-    let total = entries::offset(infos, n, room);
+    let total = entries::offset(infos, count, room);
     clear(lists, total);
     total
 }

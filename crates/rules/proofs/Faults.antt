@@ -49,25 +49,25 @@ module _ (s : Slices) where
   unfolding Lists.add-block-start
   add-block-start-met k = bind-fails (limited-met _ _) (λ _. result)
 
-  pub set-ways-met : (k : ℕ) (l : List ℕ) → Met (Lists.set-ways k l s)
-  unfolding Lists.set-ways
-  set-ways-met k l = bind-fails (if-fails (λ _. result) (λ _. four)) (λ _. result)
+  pub set-branches-met : (k : ℕ) (l : List ℕ) → Met (Lists.set-branches k l s)
+  unfolding Lists.set-branches
+  set-branches-met k l = bind-fails (if-fails (λ _. result) (λ _. four)) (λ _. result)
 
-  pub add-reference-met : (k : ℕ) → Met (Lists.add-reference k s)
-  unfolding Lists.add-reference
-  add-reference-met k = bind-fails (limited-met _ _) (λ _. result)
+  pub add-function-reference-met : (k : ℕ) → Met (Lists.add-function-reference k s)
+  unfolding Lists.add-function-reference
+  add-function-reference-met k = bind-fails (limited-met _ _) (λ _. result)
 
-  pub set-table-met : (k n : ℕ) → Met (Lists.set-table k n s)
-  unfolding Lists.set-table
-  set-table-met k n = bind-fails (limited-met _ _) (λ _. result)
+  pub set-jump-table-reference-met : (k n : ℕ) → Met (Lists.set-jump-table-reference k n s)
+  unfolding Lists.set-jump-table-reference
+  set-jump-table-reference-met k n = bind-fails (limited-met _ _) (λ _. result)
 
-  pub add-possible-met : (k : ℕ) → Met (Lists.add-possible k s)
-  unfolding Lists.add-possible
-  add-possible-met k = bind-fails (limited-met _ _) (λ _. result)
+  pub add-possible-block-met : (k : ℕ) → Met (Lists.add-possible-block k s)
+  unfolding Lists.add-possible-block
+  add-possible-block-met k = bind-fails (limited-met _ _) (λ _. result)
 
-add-all-possible-met : (l : List ℕ) (s : Slices) → Met (Lists.add-all-possible l s)
-add-all-possible-met [] s = result
-add-all-possible-met (k ∷ l) s = bind-fails (add-possible-met s k) (λ t. add-all-possible-met l t)
+add-all-possible-blocks-met : (l : List ℕ) (s : Slices) → Met (Lists.add-all-possible-blocks l s)
+add-all-possible-blocks-met [] s = result
+add-all-possible-blocks-met (k ∷ l) s = bind-fails (add-possible-block-met s k) (λ t. add-all-possible-blocks-met l t)
 
 -- ---- jump tables
 
@@ -133,32 +133,32 @@ end-block-met k b w = bind-fails (set-block-met _ b _) (λ _. result)
 module _ (e : Around) where
   do-go-on-met : (k b : ℕ) (w : Walk) → Met (Step.do-go-on e k b w)
   unfolding Step.do-go-on
-  do-go-on-met k b w = if-fails (λ _. bind-fails (end-block-met k b w) (λ v. on-slices-met _ v (set-ways-met _ k _))) (λ _. result)
+  do-go-on-met k b w = if-fails (λ _. bind-fails (end-block-met k b w) (λ v. on-slices-met _ v (set-branches-met _ k _))) (λ _. result)
 
   do-unknown-met : (k : ℕ) (w : Walk) → Met (Step.do-unknown e k w)
   unfolding Step.do-unknown
-  do-unknown-met k w = if-fails (λ _. bind-fails (on-slices-met _ w (set-ways-met _ k _)) (λ v. mark-and-push-met _ v)) (λ _. result)
+  do-unknown-met k w = if-fails (λ _. bind-fails (on-slices-met _ w (set-branches-met _ k _)) (λ v. mark-and-push-met _ v)) (λ _. result)
 
   do-jump-met : (k t : ℕ) (w : Walk) → Met (Step.do-jump e k t w)
   unfolding Step.do-jump Step.do-jump-elsewhere Step.jump-inside Step.jump-outside
   do-jump-met k t w =
-      bind-fails (on-slices-met _ w (set-ways-met _ k _))
+      bind-fails (on-slices-met _ w (set-branches-met _ k _))
       (λ v. if-fails (λ _. result)
       (λ _. if-fails (λ _. bind-fails (add-block-start-met _ t) (λ s. if-fails (λ _. result) (λ _. result)))
-      (λ _. on-slices-met _ v (if-fails (λ _. if-fails (λ _. add-reference-met _ _) (λ _. add-possible-met _ _)) (λ _. if-fails (λ _. number (lit≤ tt, lit≤ tt)) (λ _. add-reference-met _ _))))))
+      (λ _. on-slices-met _ v (if-fails (λ _. if-fails (λ _. add-function-reference-met _ _) (λ _. add-possible-block-met _ _)) (λ _. if-fails (λ _. number (lit≤ tt, lit≤ tt)) (λ _. add-function-reference-met _ _))))))
 
   do-table-met : (k t n : ℕ) (w : Walk) → Met (Step.do-table e k t n w)
   unfolding Step.do-table Step.do-own-table
   do-table-met k t n w =
       bind-fails (jump-table-entries-met _ t n _ _)
       (λ r. if-fails
-      (λ _. bind-fails (on-slices-met _ w (set-table-met _ t _)) (λ v. bind-fails (mark-and-push-all-met (r .taken) v) (λ u. on-slices-met _ u (set-ways-met _ k (r .taken)))))
-      (λ _. on-slices-met _ w (add-all-possible-met (r .taken) _)))
+      (λ _. bind-fails (on-slices-met _ w (set-jump-table-reference-met _ t _)) (λ v. bind-fails (mark-and-push-all-met (r .taken) v) (λ u. on-slices-met _ u (set-branches-met _ k (r .taken)))))
+      (λ _. on-slices-met _ w (add-all-possible-blocks-met (r .taken) _)))
 
   branch-to-met : (link : Bool) (to : To) (w : Walk) (out : List ℕ) → Met (Step.branch-to e link to w out)
   unfolding Step.do-branch
   branch-to-met link (to-address a) w out =
-      if-fails (λ _. bind-fails (mark-and-push-met _ w) (λ _. result)) (λ _. bind-fails (on-slices-met _ w (add-reference-met _ _)) (λ _. result))
+      if-fails (λ _. bind-fails (mark-and-push-met _ w) (λ _. result)) (λ _. bind-fails (on-slices-met _ w (add-function-reference-met _ _)) (λ _. result))
   branch-to-met link (to-table a) w out = number (lit≤ tt, lit≤ tt)
   branch-to-met link elsewhere w out = result
 
@@ -176,7 +176,7 @@ module _ (e : Around) where
   do-outcome-met k b (jump-table a n) w = bind-fails (end-block-met k b w) (λ v. do-table-met k _ n v)
   do-outcome-met k b (branches l) w =
       bind-fails (end-block-met k b w)
-      (λ v. bind-fails (branch-each-met l v []) (λ r. if-fails (λ _. result) (λ _. on-slices-met _ (r .0) (set-ways-met _ k _))))
+      (λ v. bind-fails (branch-each-met l v []) (λ r. if-fails (λ _. result) (λ _. on-slices-met _ (r .0) (set-branches-met _ k _))))
 
   -- ---- a walk, and its passes
 
@@ -234,7 +234,7 @@ module _ (e : Around) where
     settle-met : (k : ℕ) (a : TailCall.TailCall) (s : Slices) → Met (Settle.settle e low final k a s)
     unfolding Settle.settle
     settle-met k is-not s = bind-fails (include-met k s) (λ _. result)
-    settle-met k is s = bind-fails (add-reference-met _ k) (λ _. result)
+    settle-met k is s = bind-fails (add-function-reference-met _ k) (λ _. result)
     settle-met k possibly s = if-fails (λ _. bind-fails (include-met k s) (λ _. result)) (λ _. result)
 
     settle-all-met : (t : Settle.Settling) → Met (Settle.settle-all e low final t)
@@ -271,7 +271,7 @@ module _ (im : Image) (cap : Capacity) where
   process-function-at-met k es =
       bind-fails (analyze-met _ k _)
       (λ r. if-fails
-      (λ _. bind-fails (try-add-functions-met (r .slices .references) es) (λ fs. if-fails (λ _. bind-fails (finalize-met fs _) (λ t. store-met k t _ fs)) (λ _. store-met k _ 0 fs)))
+      (λ _. bind-fails (try-add-functions-met (r .slices .function-references) es) (λ fs. if-fails (λ _. bind-fails (finalize-met fs _) (λ t. store-met k t _ fs)) (λ _. store-met k _ 0 fs)))
       (λ _. bind-fails (add-entry-met k es) (λ _. result)))
 
   pub process-each-met : (ks : List ℕ) (es : List Entry) → Met (Map.process-each im cap ks es)
@@ -284,7 +284,7 @@ module _ (im : Image) (cap : Capacity) where
   finalize-entry-met final k (some s) r =
       bind-fails (settle-all-met _ _ final _)
       (λ t. if-fails
-      (λ _. bind-fails (finalize-met _ _) (λ u. bind-fails (try-add-functions-met (u .references) (r .entries)) (λ es. bind-fails (store-met k u _ es) (λ _. result)))) (λ _. result))
+      (λ _. bind-fails (finalize-met _ _) (λ u. bind-fails (try-add-functions-met (u .function-references) (r .entries)) (λ es. bind-fails (store-met k u _ es) (λ _. result)))) (λ _. result))
 
   pub finalize-each-met : (final : Bool) (xs : List Entry) (r : Round) → Met (Map.finalize-each im cap final xs r)
   finalize-each-met final [] r = result

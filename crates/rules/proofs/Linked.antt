@@ -456,12 +456,12 @@ module _ (e : Around) (sound : Sound (e .image)) (aimed : Aimed (e .image)) (fra
     blocks : v .slices .blocks ≡ w .slices .blocks
     tidy : Tidy e v
 
-  clear-discard : (k j : ℕ) (v : Walk) → Clear k (v .slices .blocks) → Clear k (Lists.discard-possible j (v .slices) .blocks)
-  unfolding Lists.discard-possible
+  clear-discard : (k j : ℕ) (v : Walk) → Clear k (v .slices .blocks) → Clear k (Lists.discard-possible-block j (v .slices) .blocks)
+  unfolding Lists.discard-possible-block
   clear-discard k j v c = c
 
-  linked-discard : (j : ℕ) (v : Walk) → Linked (v .slices .blocks) → Linked (Lists.discard-possible j (v .slices) .blocks)
-  unfolding Lists.discard-possible
+  linked-discard : (j : ℕ) (v : Walk) → Linked (v .slices .blocks) → Linked (Lists.discard-possible-block j (v .slices) .blocks)
+  unfolding Lists.discard-possible-block
   linked-discard j v l = l
 
   -- the one address that a pass begins with is taken first
@@ -492,17 +492,17 @@ module _ (e : Around) (sound : Sound (e .image)) (aimed : Aimed (e .image)) (fra
   unfolding Analyze.run-pass Analyze.checked-pass
   run-pass-halted k w q a c t l = bind-holds (walk-from-halted k w q a c t l) (λ v p. if-holds (λ _. good p) (λ _. none))
 
-  discard-other : (k : ℕ) (s : Slices) → Other Aligned s (Lists.discard-possible k s)
-  unfolding Lists.discard-possible
-  discard-other k s = record { same = refl; few = λ h. omega (arith, Keeps.without-few k (s .possible)); refers = λ h. h; maybe = λ h. all-without Ordered.self Aligned k (s .possible) h }
+  discard-other : (k : ℕ) (s : Slices) → Other Aligned s (Lists.discard-possible-block k s)
+  unfolding Lists.discard-possible-block
+  discard-other k s = record { same = refl; few = λ h. omega (arith, Keeps.without-few k (s .possible-blocks)); refers = λ h. h; maybe = λ h. all-without Ordered.self Aligned k (s .possible-blocks) h }
 
   connect-halted : (w : Walk) → Halted w → Holds Halted (Analyze.connect e w)
   unfolding Analyze.connect Analyze.connect-step Analyze.pass-behind Analyze.is-disconnected
   connect-halted w p =
       loop-keeps (Analyze.is-disconnected e) (Analyze.connect-step e) Halted
-      (λ v h q. run-pass-halted (Blocks.first-disconnected-block (v .slices .blocks) .end) (with-slices v (Lists.discard-possible (Blocks.first-disconnected-block (v .slices .blocks) .start) (v .slices))) (q .rests (not-true _ (and-left _ _ h))) (Tidy.behind-aligned e sound aimed framed v (q .neat .tidy))
+      (λ v h q. run-pass-halted (Blocks.first-disconnected-block (v .slices .blocks) .end) (with-slices v (Lists.discard-possible-block (Blocks.first-disconnected-block (v .slices .blocks) .start) (v .slices))) (q .rests (not-true _ (and-left _ _ h))) (Tidy.behind-aligned e sound aimed framed v (q .neat .tidy))
       (clear-discard (Blocks.first-disconnected-block (v .slices .blocks) .end) (Blocks.first-disconnected-block (v .slices .blocks) .start) v (gap-clear (e .image) (v .slices .blocks) (q .neat .tidy .blocks) (q .neat .linked) (eqb-false _ _ (not-true _ (and-right (not (Analyze.is-nowhere (v .place))) _ h)))))
-      (tidies .other v (Lists.discard-possible (Blocks.first-disconnected-block (v .slices .blocks) .start) (v .slices)) (discard-other (Blocks.first-disconnected-block (v .slices .blocks) .start) (v .slices)) (q .neat .tidy))
+      (tidies .other v (Lists.discard-possible-block (Blocks.first-disconnected-block (v .slices .blocks) .start) (v .slices)) (discard-other (Blocks.first-disconnected-block (v .slices .blocks) .start) (v .slices)) (q .neat .tidy))
       (linked-discard (Blocks.first-disconnected-block (v .slices .blocks) .start) v (q .neat .linked))) (Analyze.passes-left e) w p
 
   further-clear : (w : Walk) → Neat w → (last-end (w .slices .blocks) ≡ 0 → ⊥) → Clear (Analyze.next-part e w) (w .slices .blocks)

@@ -33,7 +33,7 @@ pub record LoopsEnd (im : Image) (cap : Capacity) (checked : Checked im) : Type 
   pub nops : (e : Around) (a : ℕ) → Analyze.at-nop e (Analyze.skip-nops e a) ≡ false
   pub padding : (end a : ℕ) → Map.is-padding im cap end (run (Map.is-padding im cap end) (Map.skip-zero im cap) (λ x. end - x) a) ≡ false
   -- the possible blocks of one function: an entry of a table has at most 128 (Owned, in proofs/Settled.antt)
-  pub settle : (e : Around) → e .image ≡ im → (low : ℕ) (final : Bool) (t : Settling) → length (t .slices .possible) ≤ 128 → Comes Settle.is-unsettled (Settle.settle-step e low final) t (Settle.settle-all e low final t)
+  pub settle : (e : Around) → e .image ≡ im → (low : ℕ) (final : Bool) (t : Settling) → length (t .slices .possible-blocks) ≤ 128 → Comes Settle.is-unsettled (Settle.settle-step e low final) t (Settle.settle-all e low final t)
   -- the rounds, from a table of entries
   pub process : (r : Round) → Table im false true (r .entries) → Comes Map.is-changed (Map.process-step im cap) r (rounds im checked cap r)
   pub last : (r : Round) → Table im false true (r .entries) → Comes Map.is-changed (Map.last-step im cap) r (last-rounds im checked cap r)
@@ -59,7 +59,7 @@ module _ (im : Image) where
       loop-comes (Analyze.is-short e) (Analyze.reach-step e) (λ _. Unit {0}) (λ _ _ _. trivial _) (Analyze.passes-left e)
       (reach-falls e (subst Sound (sym q) s) (subst Aimed (sym q) g)) w tt
 
-  settle-comes : Aimed im → (e : Around) → e .image ≡ im → (low : ℕ) (final : Bool) (t : Settling) → length (t .slices .possible) ≤ 128 → Comes Settle.is-unsettled (Settle.settle-step e low final) t (Settle.settle-all e low final t)
+  settle-comes : Aimed im → (e : Around) → e .image ≡ im → (low : ℕ) (final : Bool) (t : Settling) → length (t .slices .possible-blocks) ≤ 128 → Comes Settle.is-unsettled (Settle.settle-step e low final) t (Settle.settle-all e low final t)
   unfolding Settle.settle-all
   settle-comes g e q low final t few =
       let h : Aimed (e .image) = subst Aimed (sym q) g in

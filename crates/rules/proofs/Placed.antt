@@ -169,7 +169,7 @@ module _ (im : Image.Image) where
       unfolding Map.store-function Map.store-final
       store-function-map k s es n c o a m =
           let f = front im k s o a in
-          bind-holds (try-add-functions-map (s .references) es (o .names .refers) m)
+          bind-holds (try-add-functions-map (s .function-references) es (o .names .refers) m)
           (λ fs q. if-holds
           (λ _. bind-holds (finalize-final im (checked .sound) k fs s o) (λ t z. store-map k t (last-end (t .blocks)) fs n c (z .owned) (inr refl) (λ _. z .front f) q))
           (λ _. store-map k s 0 fs n c o (inl refl) (λ _. f) q))
@@ -224,7 +224,7 @@ module _ (im : Image.Image) where
     unfolding Map.keep-settled
     keep-settled-map k s r n c o m =
         bind-holds (both (finalize-final im (checked .sound) k (r .entries) s o) (finalize-ends im (r .entries) s))
-        (λ t z. bind-holds (try-add-functions-map false (t .references) (r .entries) (z .0 .owned .names .refers) (m .late))
+        (λ t z. bind-holds (try-add-functions-map false (t .function-references) (r .entries) (z .0 .owned .names .refers) (m .late))
         (λ es q. bind-holds (store-map false k t (last-end (t .blocks)) es n c (z .0 .owned) (inr refl) (never t (z .1)) q) (λ fs w. good (record { late = w }))))
       where
         never : (t : Slices) → Ends t → (_≡_ {A = Bool} false true) ⊎ (last-end (t .blocks) ≡ 0) → bottom im ≤ first-start (t .blocks)

@@ -179,7 +179,7 @@ module _ (cap : Capacity) where
     store-function-stored : (k : ℕ) (s : Slices) (es : List Entry) → Rising entryOf es → Waits 2 k es → Holds (Stored k es) (Map.store-function im cap k s es)
     unfolding Map.store-function Map.store-final
     store-function-stored k s es r w =
-        bind-holds (try-add-functions-added (s .references) es r)
+        bind-holds (try-add-functions-added (s .function-references) es r)
         (λ fs a. if-holds
         (λ _. bind-holds (trivial _) (λ t _. map-holds (store-stored 2 k t _ fs (end-weight (last-end (t .blocks))) (a .rising) (a .waits 2 k w)) (λ gs b. added-stored a b)))
         (λ _. map-holds (store-stored 2 k s 0 fs (end-weight 0) (a .rising) (a .waits 2 k w)) (λ gs b. added-stored a b)))
@@ -265,7 +265,7 @@ module _ (im : Image.Image) (cap : Capacity) where
   unfolding Map.keep-settled
   keep-settled-handled k s r h w =
       bind-holds (finalize-ends im (r .entries) s)
-      (λ t e. bind-holds (try-add-functions-added cap im (t .references) (r .entries) h)
+      (λ t e. bind-holds (try-add-functions-added cap im (t .function-references) (r .entries) h)
       (λ es a. bind-holds (store-stored cap 1 k t (last-end (t .blocks)) es (no-weight t e) (a .rising) (a .waits 1 k w))
       (λ fs b. let c = added-stored a b in good (record { moved = moves refl (c .done); rising = c .rising; waits = c .waits }))))
 

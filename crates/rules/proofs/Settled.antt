@@ -26,7 +26,7 @@ use Rattle.rules.specs.Finalize
 use Rattle.rules.specs.Settle
 use Rattle.rules.specs.Settle.{Settling, settling}
 use Rattle.rules.proofs.WalkEnds.{Sound}
-use Rattle.rules.proofs.Keeps.{Aimed, without-few, Other, add-reference-other, set-block-puts}
+use Rattle.rules.proofs.Keeps.{Aimed, without-few, Other, add-function-reference-other, set-block-puts}
 use Rattle.rules.proofs.SettlingEnds.{filter-few, Grew, walked, marked, analyze-grew}
 use Rattle.rules.proofs.Tidy.{bottom, Proper, open-one, closed, TidyBlocks, put-tidy, Aligned, Names, Framed, analyze-tidy}
 use Rattle.rules.specs.Accounted.{NoIllegal}
@@ -48,7 +48,7 @@ module _ (im : Image.Image) where
   pub record Owned (k : ℕ) (s : Slices) : Type 0 where
     pub tidy : TidyBlocks im (s .blocks)
     pub names : Names s
-    pub few : length (s .possible) ≤ 128
+    pub few : length (s .possible-blocks) ≤ 128
     pub own : Among startOf k (s .blocks)
     pub linked : NoIllegal im → Linked (s .blocks)
 
@@ -57,10 +57,10 @@ module _ (im : Image.Image) where
   owned-other k s t o p =
       record { tidy = rw (o .same) (p .tidy); names = record { refers = o .refers (p .names .refers); maybe = o .maybe (p .names .maybe) }; few = o .few (p .few); own = rw (o .same) (p .own); linked = λ n. rw (o .same) (p .linked n) }
 
-  discard-owned : (k j : ℕ) (s : Slices) → Owned k s → Owned k (Lists.discard-possible j s)
-  unfolding Lists.discard-possible
+  discard-owned : (k j : ℕ) (s : Slices) → Owned k s → Owned k (Lists.discard-possible-block j s)
+  unfolding Lists.discard-possible-block
   discard-owned k j s p =
-      record { tidy = p .tidy; names = record { refers = p .names .refers; maybe = all-without self Aligned j (s .possible) (p .names .maybe) }; few = omega (arith, p .few, without-few j (s .possible)); own = p .own; linked = p .linked }
+      record { tidy = p .tidy; names = record { refers = p .names .refers; maybe = all-without self Aligned j (s .possible-blocks) (p .names .maybe) }; few = omega (arith, p .few, without-few j (s .possible-blocks)); own = p .own; linked = p .linked }
 
   -- the end lies above the entry
   pub owned-end : (k : ℕ) (s : Slices) → Owned k s → (last-end (s .blocks) ≡ 0 → ⊥) → k < last-end (s .blocks)
@@ -181,11 +181,11 @@ module _ (e : Around) (sound : Sound (e .image)) (aimed : Aimed (e .image)) (fra
   pub record OwnedBy (k : ℕ) (r : Analyze.Analyzed) : Type 0 where
     pub owned : Owned (e .image) k (r .slices)
 
-  grew-few : (s : Slices) {t : Slices} → length (s .possible) ≤ 128 → Grew s t → length (t .possible) ≤ 128
+  grew-few : (s : Slices) {t : Slices} → length (s .possible-blocks) ≤ 128 → Grew s t → length (t .possible-blocks) ≤ 128
   grew-few s h (walked a b p) = p
   grew-few s h (marked a q) = rw q h
 
-  pub analyze-owned : (k j : ℕ) (s : Slices) → Aligned j → TidyBlocks (e .image) (s .blocks) → Names s → length (s .possible) ≤ 128 → (k ≡ j) ⊎ Among startOf k (s .blocks) → (NoIllegal (e .image) → Linked (s .blocks)) → Holds (OwnedBy k) (Analyze.analyze e j s)
+  pub analyze-owned : (k j : ℕ) (s : Slices) → Aligned j → TidyBlocks (e .image) (s .blocks) → Names s → length (s .possible-blocks) ≤ 128 → (k ≡ j) ⊎ Among startOf k (s .blocks) → (NoIllegal (e .image) → Linked (s .blocks)) → Holds (OwnedBy k) (Analyze.analyze e j s)
   analyze-owned k j s a t n f m l =
       map-holds (both (both (both (analyze-tidy e sound aimed framed j s a t n) (analyze-starts e aimed j k s m)) (analyze-grew e aimed j s f)) (assuming {P = LinkedIn} (λ i. analyze-linked e sound aimed framed i j s a t n (l i))))
       (λ r p. record { owned = record { tidy = p .0 .0 .0 .blocks; names = p .0 .0 .0 .names; few = grew-few s f (p .0 .1 .grew); own = p .0 .0 .1 .starts; linked = λ i. p .1 i .linked } })
@@ -204,7 +204,7 @@ module _ (e : Around) (sound : Sound (e .image)) (aimed : Aimed (e .image)) (fra
     unfolding TailCall.judge-others
     judge-others-owned s t p =
         if-holds
-        (λ _. good (record { owned = record { tidy = p .tidy; names = record { refers = p .names .refers; maybe = all-filter Aligned (λ j. not (TailCall.is-other e t j)) (s .possible) (p .names .maybe) }; few = omega (arith, p .few, filter-few (λ j. not (TailCall.is-other e t j)) (s .possible)); own = p .own; linked = p .linked } }))
+        (λ _. good (record { owned = record { tidy = p .tidy; names = record { refers = p .names .refers; maybe = all-filter Aligned (λ j. not (TailCall.is-other e t j)) (s .possible-blocks) (p .names .maybe) }; few = omega (arith, p .few, filter-few (λ j. not (TailCall.is-other e t j)) (s .possible-blocks)); own = p .own; linked = p .linked } }))
         (λ _. unchanged _ s p)
 
     judge-owned : (j : ℕ) (s : Slices) (a : Answer Analyze.Analyzed) → Own s → Holds OwnVerdict (TailCall.judge e j s a)
@@ -227,7 +227,7 @@ module _ (e : Around) (sound : Sound (e .image)) (aimed : Aimed (e .image)) (fra
       unfolding Settle.include
       include-owned j c s a p =
           let d = discard-owned (e .image) k j s p in
-          bind-holds (bind-holds (analyze-owned k j (Lists.discard-possible j s) a (d .tidy) (d .names) (d .few) (inr (d .own)) (d .linked)) (λ r g. good (g .owned)))
+          bind-holds (bind-holds (analyze-owned k j (Lists.discard-possible-block j s) a (d .tidy) (d .names) (d .few) (inr (d .own)) (d .linked)) (λ r g. good (g .owned)))
           (λ u g. good (record { owned = g }))
 
       settle-owned : (j : ℕ) (a : TailCall.TailCall) (s : Slices) → Aligned j → Own s → Holds OwnSettling (Settle.settle e low final j a s)
@@ -235,18 +235,18 @@ module _ (e : Around) (sound : Sound (e .image)) (aimed : Aimed (e .image)) (fra
       settle-owned j is-not s a p = include-owned j low s a p
       settle-owned j is s a p =
           let d = discard-owned (e .image) k j s p in
-          bind-holds (add-reference-other Aligned (Lists.discard-possible j s) j a) (λ u o. good (record { owned = owned-other (e .image) k _ u o d }))
+          bind-holds (add-function-reference-other Aligned (Lists.discard-possible-block j s) j a) (λ u o. good (record { owned = owned-other (e .image) k _ u o d }))
       settle-owned j possibly s a p = if-holds (λ _. include-owned j (j + 4) s a p) (λ _. good (record { owned = p }))
 
-      next-aligned : (t : Settling) → Own (t .slices) → Aligned (Settle.next-possible t)
-      unfolding Settle.next-possible
-      next-aligned t p = upper-holds self Aligned (t .current) 0 (t .slices .possible) refl (p .names .maybe)
+      next-aligned : (t : Settling) → Own (t .slices) → Aligned (Settle.next-possible-block t)
+      unfolding Settle.next-possible-block
+      next-aligned t p = upper-holds self Aligned (t .current) 0 (t .slices .possible-blocks) refl (p .names .maybe)
 
       settle-step-owned : (t : Settling) → OwnSettling t → Holds OwnSettling (Settle.settle-step e low final t)
       unfolding Settle.settle-step
       settle-step-owned t p =
-          bind-holds (check-tail-call-owned (Settle.next-possible t) (t .slices) (p .owned))
-          (λ v q. settle-owned (Settle.next-possible t) (v .answer) (v .slices) (next-aligned t (p .owned)) (q .owned))
+          bind-holds (check-tail-call-owned (Settle.next-possible-block t) (t .slices) (p .owned))
+          (λ v q. settle-owned (Settle.next-possible-block t) (v .answer) (v .slices) (next-aligned t (p .owned)) (q .owned))
 
       pub settle-all-owned : (t : Settling) → OwnSettling t → Holds OwnSettling (Settle.settle-all e low final t)
       unfolding Settle.settle-all

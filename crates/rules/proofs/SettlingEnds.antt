@@ -97,13 +97,13 @@ next-passed c (x ∷ l) h = pick (ltb x c) refl h (next-passed c l)
 
 -- it walks, and begins a block at least; or it only marks
 pub data Grew (s t : Slices) : Type 0 where
-  walked : length (s .blocks) < length (t .blocks) → length (s .blocks) < 256 → length (t .possible) ≤ 128 → Grew s t
-  marked : length (s .blocks) ≤ length (t .blocks) → t .possible ≡ s .possible → Grew s t
+  walked : length (s .blocks) < length (t .blocks) → length (s .blocks) < 256 → length (t .possible-blocks) ≤ 128 → Grew s t
+  marked : length (s .blocks) ≤ length (t .blocks) → t .possible-blocks ≡ s .possible-blocks → Grew s t
 
 module _ (e : Around) (aimed : Aimed (e .image)) where
   pub record Big (m : ℕ) (w : Walk) : Type 0 where
     pub many : m ≤ length (w .slices .blocks)
-    pub few : length (w .slices .possible) ≤ 128
+    pub few : length (w .slices .possible-blocks) ≤ 128
 
   abbrev Any : {A : Type 0} → A → Type 0
   Any x = Unit {0}
@@ -138,7 +138,7 @@ module _ (e : Around) (aimed : Aimed (e .image)) where
   pub record GrewTo (s : Slices) (r : Analyze.Analyzed) : Type 0 where
     pub grew : Grew s (r .slices)
 
-  pub analyze-grew : (k : ℕ) (s : Slices) → length (s .possible) ≤ 128 → Holds (GrewTo s) (Analyze.analyze e k s)
+  pub analyze-grew : (k : ℕ) (s : Slices) → length (s .possible-blocks) ≤ 128 → Holds (GrewTo s) (Analyze.analyze e k s)
   unfolding Analyze.analyze
   analyze-grew k s few =
       bind-holds (Sizes.add-block-start-marks s k)
@@ -154,7 +154,7 @@ module _ (e : Around) (aimed : Aimed (e .image)) where
 
 pub data Judged (s : Slices) (v : TailCall.Verdict) : Type 0 where
   same : v .slices ≡ s → Judged s v
-  fewer : v .slices .blocks ≡ s .blocks → length (v .slices .possible) < length (s .possible) → v .answer ≡ is-not → Judged s v
+  fewer : v .slices .blocks ≡ s .blocks → length (v .slices .possible-blocks) < length (s .possible-blocks) → v .answer ≡ is-not → Judged s v
 
 module _ (e : Around) where
   unchanged : (a : TailCall.TailCall) (s : Slices) → Holds (Judged s) (TailCall.verdict a s)
@@ -163,7 +163,7 @@ module _ (e : Around) where
   judge-others-judged : (s t : Slices) → Holds (Judged s) (TailCall.judge-others e s t)
   unfolding TailCall.judge-others
   judge-others-judged s t =
-      if-holds (λ h. good (fewer refl (filter-fewer (TailCall.is-other e t) (s .possible) h) refl)) (λ _. unchanged _ s)
+      if-holds (λ h. good (fewer refl (filter-fewer (TailCall.is-other e t) (s .possible-blocks) h) refl)) (λ _. unchanged _ s)
 
   judge-judged : (k : ℕ) (s : Slices) (a : Answer Analyze.Analyzed) → Holds (Judged s) (TailCall.judge e k s a)
   unfolding TailCall.judge TailCall.judge-trial
@@ -184,62 +184,62 @@ never a p q = let z : _≡_ {A = ℕ} 0 1 = cc in omega arith
 
 module _ (e : Around) (low : ℕ) (final : Bool) (aimed : Aimed (e .image)) where
   pub record Few (t : Settling) : Type 0 where
-    pub few : length (t .slices .possible) ≤ 128
+    pub few : length (t .slices .possible-blocks) ≤ 128
 
   pub record Less (t u : Settling) : Type 0 where
     pub falls : Settle.unsettled e low final u < Settle.unsettled e low final t
-    pub few : length (u .slices .possible) ≤ 128
+    pub few : length (u .slices .possible-blocks) ≤ 128
 
   -- the same blocks, and a possible block less
   record Discarded (t : Settling) (d : Slices) : Type 0 where
     blocks : d .blocks ≡ t .slices .blocks
-    less : length (d .possible) < length (t .slices .possible)
+    less : length (d .possible-blocks) < length (t .slices .possible-blocks)
 
   grew-less : (t : Settling) (d u : Slices) (c : ℕ) → Few t → Discarded t d → Grew d u → Less t (settling u c)
   unfolding Settle.unsettled
   grew-less t d u c f x (walked a b p) =
       let j = ap length (x .blocks) in
-      record { falls = omega (arith, filter-few (λ p. leb c p) (u .possible)); few = p }
+      record { falls = omega (arith, filter-few (λ p. leb c p) (u .possible-blocks)); few = p }
   grew-less t d u c f x (marked a q) =
       let j = ap length (x .blocks) in
       let i = ap length q in
-      record { falls = omega (arith, f .few, x .less, filter-few (λ p. leb c p) (u .possible)); few = omega (arith, f .few, x .less) }
+      record { falls = omega (arith, f .few, x .less, filter-few (λ p. leb c p) (u .possible-blocks)); few = omega (arith, f .few, x .less) }
 
-  include-less : (t : Settling) (k c : ℕ) (s : Slices) → Few t → Discarded t (Lists.discard-possible k s) → Holds (Less t) (Settle.include e low final k s >>= λ u. ok (settling u c))
+  include-less : (t : Settling) (k c : ℕ) (s : Slices) → Few t → Discarded t (Lists.discard-possible-block k s) → Holds (Less t) (Settle.include e low final k s >>= λ u. ok (settling u c))
   unfolding Settle.include
   include-less t k c s f x =
-      bind-holds (bind-holds (analyze-grew e aimed k (Lists.discard-possible k s) (omega (arith, f .few, x .less))) (λ r g. good (g .grew)))
+      bind-holds (bind-holds (analyze-grew e aimed k (Lists.discard-possible-block k s) (omega (arith, f .few, x .less))) (λ r g. good (g .grew)))
       (λ u g. good (grew-less t _ u c f x g))
 
-  add-reference-less : (t : Settling) (k c : ℕ) (d : Slices) → Few t → Discarded t d → Holds (Less t) (Lists.add-reference k d >>= λ u. ok (settling u c))
-  unfolding Lists.add-reference
-  add-reference-less t k c d f x =
+  add-function-reference-less : (t : Settling) (k c : ℕ) (d : Slices) → Few t → Discarded t d → Holds (Less t) (Lists.add-function-reference k d >>= λ u. ok (settling u c))
+  unfolding Lists.add-function-reference
+  add-function-reference-less t k c d f x =
       bind-holds (bind-holds {P = λ l. Unit {0}} {Q = Grew d} (trivial _) (λ l _. good (marked (omega arith) refl)))
       (λ u g. good (grew-less t d u c f x g))
 
-  discarded : (t : Settling) (v : TailCall.Verdict) → (Settle.next-possible t ≡ 0 → ⊥) → Judged (t .slices) v → Discarded t (Lists.discard-possible (Settle.next-possible t) (v .slices))
-  unfolding Lists.discard-possible Settle.next-possible
+  discarded : (t : Settling) (v : TailCall.Verdict) → (Settle.next-possible-block t ≡ 0 → ⊥) → Judged (t .slices) v → Discarded t (Lists.discard-possible-block (Settle.next-possible-block t) (v .slices))
+  unfolding Lists.discard-possible-block Settle.next-possible-block
   discarded t v h (same q) =
-      record { blocks = ap (λ (s : Slices). s .blocks) q; less = rw q (omega (arith, next-without (t .current) (t .slices .possible) h)) }
+      record { blocks = ap (λ (s : Slices). s .blocks) q; less = rw q (omega (arith, next-without (t .current) (t .slices .possible-blocks) h)) }
   discarded t v h (fewer b l a) =
-      record { blocks = b; less = omega (arith, without-few (Settle.next-possible t) (v .slices .possible)) }
+      record { blocks = b; less = omega (arith, without-few (Settle.next-possible-block t) (v .slices .possible-blocks)) }
 
-  passed : (t : Settling) (v : TailCall.Verdict) → Few t → (Settle.next-possible t ≡ 0 → ⊥) → v .answer ≡ possibly → Judged (t .slices) v → Less t (settling (v .slices) (Settle.next-possible t + 4))
-  unfolding Settle.unsettled Settle.next-possible
-  passed t v f h a (same q) = record { falls = rw q (omega (arith, next-passed (t .current) (t .slices .possible) h)); few = rw q (f .few) }
+  passed : (t : Settling) (v : TailCall.Verdict) → Few t → (Settle.next-possible-block t ≡ 0 → ⊥) → v .answer ≡ possibly → Judged (t .slices) v → Less t (settling (v .slices) (Settle.next-possible-block t + 4))
+  unfolding Settle.unsettled Settle.next-possible-block
+  passed t v f h a (same q) = record { falls = rw q (omega (arith, next-passed (t .current) (t .slices .possible-blocks) h)); few = rw q (f .few) }
   passed t v f h a (fewer b l n) = absurd (never (v .answer) a n)
 
-  settle-less : (t : Settling) (v : TailCall.Verdict) (a : TailCall.TailCall) → v .answer ≡ a → Few t → (Settle.next-possible t ≡ 0 → ⊥) → Judged (t .slices) v → Holds (Less t) (Settle.settle e low final (Settle.next-possible t) a (v .slices))
+  settle-less : (t : Settling) (v : TailCall.Verdict) (a : TailCall.TailCall) → v .answer ≡ a → Few t → (Settle.next-possible-block t ≡ 0 → ⊥) → Judged (t .slices) v → Holds (Less t) (Settle.settle e low final (Settle.next-possible-block t) a (v .slices))
   unfolding Settle.settle
   settle-less t v is-not q f h j = include-less t _ low (v .slices) f (discarded t v h j)
-  settle-less t v is q f h j = add-reference-less t _ low _ f (discarded t v h j)
+  settle-less t v is q f h j = add-function-reference-less t _ low _ f (discarded t v h j)
   settle-less t v possibly q f h j =
       if-holds (λ _. include-less t _ _ (v .slices) f (discarded t v h j)) (λ _. good (passed t v f h q j))
 
   step-less : (t : Settling) → Settle.is-unsettled t ≡ true → Few t → Holds (Less t) (Settle.settle-step e low final t)
   unfolding Settle.settle-step Settle.is-unsettled
   step-less t h f =
-      bind-holds (check-tail-call-judged e (Settle.next-possible t) (t .slices))
+      bind-holds (check-tail-call-judged e (Settle.next-possible-block t) (t .slices))
       (λ v j. settle-less t v (v .answer) refl f (eqb-false _ _ (not-true _ h)) j)
 
   pub few-kept : (t : Settling) → Settle.is-unsettled t ≡ true → Few t → Holds Few (Settle.settle-step e low final t)

@@ -12,7 +12,7 @@ use Rattle.rules.specs.Image.{Image}
 use Rattle.rules.specs.Words.{blr, nop, primary}
 use Rattle.rules.specs.Branches.{branch-dest}
 use Rattle.rules.specs.Blocks.{last-start, last-end}
-use Rattle.rules.specs.Slices.{Slices, Ways, set-block, with-returns, with-finalized}
+use Rattle.rules.specs.Slices.{Slices, Branches, set-block, with-returns, with-finalized}
 use Rattle.rules.specs.Known.{Entry, entryOf}
 
 module _ (im : Image) where
@@ -28,16 +28,16 @@ module _ (im : Image) where
   unfoldable pub ends-in-call : Slices → Bool
   ends-in-call s =
       eqb (primary (last-word s)) 18 &&
-      has self (Image.locate im (branch-dest (last-word s) (address-of (last-end (s .blocks)) - 4))) (s .references)
+      has self (Image.locate im (branch-dest (last-word s) (address-of (last-end (s .blocks)) - 4))) (s .function-references)
 
   -- two ways on, one of them to the last block
-  abbrev pub branches-to : ℕ → Ways → Bool
+  abbrev pub branches-to : ℕ → Branches → Bool
   branches-to k v = ltb 1 (length (v .targets)) && any (eqb k) (v .targets)
 
   -- a conditional `blr`, or the end that a call gives to two ways on
   unfoldable pub is-conditional : Slices → Bool
   is-conditional s =
-      s .conditional-blr || (ends-in-call s && any (branches-to (last-start (s .blocks))) (s .ways))
+      s .conditional-blr || (ends-in-call s && any (branches-to (last-start (s .blocks))) (s .branches))
 
   -- a `blr` behind a conditional end, or a `nop` behind an `rfi`
   unfoldable pub has-last : Slices → Bool

@@ -8,7 +8,7 @@ use Rattle.rules.specs.Choice.{if, Answer, ok, fault}
 use Rattle.rules.specs.Address.{address-of}
 use Rattle.rules.specs.Text.{bytes}
 use Rattle.rules.specs.Blocks.{Block}
-use Rattle.rules.specs.Slices.{Slices, Ways, Table}
+use Rattle.rules.specs.Slices.{Slices, Branches, Table}
 use Rattle.rules.specs.Known.{Entry, is-function}
 
 -- a line without its newline
@@ -57,7 +57,7 @@ lines-from k [] = []
 lines-from k (t ∷ l) = (bytes "C " ++ address k ++ bytes " " ++ address t) ∷ lines-from k l
 
 -- "C by from, its targets in the order of the Rust's list"
-abbrev pub lines-C : List Ways → List Line
+abbrev pub lines-C : List Branches → List Line
 lines-C [] = []
 lines-C (w ∷ l) = lines-from (w .from) (w .targets) ++ lines-C l
 
@@ -74,7 +74,7 @@ lines-J (t ∷ l) = (bytes "J " ++ address (t .address) ++ bytes " " ++ hex 8 (t
 -- "Each F is followed by its own B, C, X and J lines"
 abbrev pub lines-function : Entry → Option Slices → List Line
 lines-function x none = []
-lines-function x (some s) = line-F x s ∷ lines-B (s .blocks) ++ lines-C (s .ways) ++ lines-X (s .references) ++ lines-J (s .tables)
+lines-function x (some s) = line-F x s ∷ lines-B (s .blocks) ++ lines-C (s .branches) ++ lines-X (s .function-references) ++ lines-J (s .jump-table-references)
 
 -- "N is an entry set aside"
 unfoldable pub lines-entry : Entry → List Line

@@ -12,7 +12,7 @@ use Rattle.rules.specs.Address.{key, address-of, section-of}
 use Rattle.rules.specs.Image
 use Rattle.rules.specs.Image.{Image, Symbol, Range}
 use Rattle.rules.specs.Blocks.{first-start, last-end}
-use Rattle.rules.specs.Slices.{Slices, with-only, count-ways}
+use Rattle.rules.specs.Slices.{Slices, with-only, count-branches}
 use Rattle.rules.specs.Known.{Entry, entryOf, new-entry, end-of-entry, is-unfinalized}
 use Rattle.rules.specs.Step.{Around}
 use Rattle.rules.specs.Analyze.{analyze}
@@ -79,7 +79,7 @@ module _ (cap : Capacity) where
   -- how many numbers a function's lists take: two for a block, a way on or a jump table, one for a reference or a possible block
   abbrev pub numbers-of : Slices → ℕ
   numbers-of s =
-      2 * length (s .blocks) + 2 * count-ways (s .ways) + length (s .references) + 2 * length (s .tables) + length (s .possible)
+      2 * length (s .blocks) + 2 * count-branches (s .branches) + length (s .function-references) + 2 * length (s .jump-table-references) + length (s .possible-blocks)
 
   -- all the entries' lists fit the lent one
   unfoldable pub fit : List Entry → Bool
@@ -124,8 +124,8 @@ module _ (im : Image) (cap : Capacity) where
   -- what it refers to becomes an entry first
   unfoldable pub store-function : ℕ → Slices → List Entry → Answer (List Entry)
   store-function k s es =
-      try-add-functions (s .references) es >>= λ fs.
-      if (empty (s .possible)) (store-final k s fs) (store cap k s 0 fs)
+      try-add-functions (s .function-references) es >>= λ fs.
+      if (empty (s .possible-blocks)) (store-final k s fs) (store cap k s 0 fs)
 
   -- a walk of this image
   abbrev pub around : ℕ → ℕ → List Entry → Around
@@ -148,14 +148,14 @@ module _ (im : Image) (cap : Capacity) where
   unfoldable pub keep-settled : ℕ → Slices → Round → Answer Round
   keep-settled k s r =
       finalize im (r .entries) s >>= λ t.
-      try-add-functions (t .references) (r .entries) >>= λ es.
+      try-add-functions (t .function-references) (r .entries) >>= λ es.
       store cap k t (last-end (t .blocks)) es >>= λ fs. ok (round true fs)
 
   -- its possible blocks are settled; where none is left, it is finalized
   unfoldable pub finalize-function : Bool → ℕ → Slices → Round → Answer Round
   finalize-function final k s r =
       settle-all (around (first-start (s .blocks)) (last-end (s .blocks)) (r .entries)) low final (settling s low) >>= λ t.
-      if (empty (t .slices .possible)) (keep-settled k (t .slices) r) (ok r)
+      if (empty (t .slices .possible-blocks)) (keep-settled k (t .slices) r) (ok r)
     where
       low : ℕ
       low = key (section-of k) 0

@@ -11,7 +11,7 @@ use Rattle.rules.specs.Image.{Image, code-number}
 use Rattle.rules.specs.Given.{Given, image-of}
 use Rattle.rules.specs.Check.{check, chained, is-entry}
 use Rattle.rules.specs.Blocks.{Block, startOf}
-use Rattle.rules.specs.Slices.{Slices, Ways, Table, addressOf, with-only}
+use Rattle.rules.specs.Slices.{Slices, Branches, Table, addressOf, with-only}
 use Rattle.rules.specs.Known.{Entry}
 use Rattle.rules.specs.Analyze.{Analyzed, analyze}
 use Rattle.rules.specs.Step.{Around}
@@ -47,19 +47,19 @@ abbrev pub sizeOf : Table → ℕ
 sizeOf t = t .size
 
 -- the word that each way on is from, and where it goes
-abbrev pub way-froms : List Ways → List ℕ
+abbrev pub way-froms : List Branches → List ℕ
 way-froms [] = []
 way-froms (v ∷ vs) = map (λ _. v .from) (v .targets) ++ way-froms vs
 
-abbrev pub way-tos : List Ways → List ℕ
+abbrev pub way-tos : List Branches → List ℕ
 way-tos [] = []
 way-tos (v ∷ vs) = v .targets ++ way-tos vs
 
 -- starts and ends of blocks, words and targets of ways on, references, addresses and sizes of jump tables, possible blocks
 unfoldable pub numbers : Slices → List ℕ
 numbers s =
-    map startOf (s .blocks) ++ map endOf (s .blocks) ++ way-froms (s .ways) ++ way-tos (s .ways) ++ s .references ++
-    map addressOf (s .tables) ++ map sizeOf (s .tables) ++ s .possible
+    map startOf (s .blocks) ++ map endOf (s .blocks) ++ way-froms (s .branches) ++ way-tos (s .branches) ++ s .function-references ++
+    map addressOf (s .jump-table-references) ++ map sizeOf (s .jump-table-references) ++ s .possible-blocks
 
 -- ---- the walk
 

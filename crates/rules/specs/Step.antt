@@ -11,7 +11,7 @@ use Rattle.rules.specs.Image.{Image, Branch, To, to-address, to-table, e
 use Rattle.rules.specs.Words.{is-lwz, is-rfi, is-conditional-blr, is-function-terminator}
 use Rattle.rules.specs.Sequences.{check-prologue-sequence, check-epilogue-sequence}
 use Rattle.rules.specs.Blocks.{startOf, is-new, last-start, last-end}
-use Rattle.rules.specs.Slices.{Slices, set-block, set-ways, add-block-start, add-reference, add-possible, add-all-possible, set-table, discard-possible, with-prologue, with-epilogue, with-r1-load, with-returns}
+use Rattle.rules.specs.Slices.{Slices, set-block, set-branches, add-block-start, add-function-reference, add-possible-block, add-all-possible-blocks, set-jump-table-reference, discard-possible-block, with-prologue, with-epilogue, with-r1-load, with-returns}
 use Rattle.rules.specs.Known.{Entry, covering}
 use Rattle.rules.specs.JumpTable.{Entries, jump-table-entries}
 
@@ -101,7 +101,7 @@ check-sequences im k s =
 -- returns are noted, and the word is no longer a possible block
 unfoldable pub note-word : Image → ℕ → Slices → Slices
 note-word im k s =
-    discard-possible k
+    discard-possible-block k
     (with-returns s (s .conditional-blr || is-conditional-blr (Image.word im (address-of k))) (s .rfi || is-rfi (Image.word im (address-of k))))
 
 -- ---- outcomes
@@ -128,7 +128,7 @@ walk-on k b w = with-place w (at (k + 4) b)
 module _ (e : Around) where
   -- the function at or around k; 0 for none
   unfoldable pub known-function : ℕ → Slices → ℕ
-  known-function k s = if (has self k (s .references)) k (covering k (e .entries))
+  known-function k s = if (has self k (s .function-references)) k (covering k (e .entries))
 
   -- k belongs to a known function that is not the walked one
   unfoldable pub is-known-function : Slices → ℕ → Bool
@@ -141,7 +141,7 @@ module _ (e : Around) where
   -- "the block ends before a word already visited or a block start"
   unfoldable pub do-go-on : ℕ → ℕ → Walk → Answer Walk
   do-go-on k b w =
-      if (is-met (k + 4) w) (end-block k b w >>= λ v. on-slices (set-ways k ((k + 4) ∷ [])) v) (ok (walk-on k b w))
+      if (is-met (k + 4) w) (end-block k b w >>= λ v. on-slices (set-branches k ((k + 4) ∷ [])) v) (ok (walk-on k b w))
 
   -- "After a nonzero illegal word the walk goes on without that test; a zero one ends it with 'no function'"
   unfoldable pub do-illegal : ℕ → ℕ → Walk → Answer Walk
@@ -151,7 +151,7 @@ module _ (e : Around) where
   unfoldable pub do-unknown : ℕ → Walk → Answer Walk
   do-unknown k w =
       if (not (eqb (w .slices .prologue) 0) && eqb (w .slices .epilogue) 0)
-      (on-slices (set-ways k ((k + 4) ∷ [])) w >>= λ v. mark-and-push (k + 4) v) (ok w)
+      (on-slices (set-branches k ((k + 4) ∷ [])) w >>= λ v. mark-and-push (k + 4) v) (ok w)
 
   -- the target t of the jump at k lies inside the function, as far as that is known
   unfoldable pub jumps-inside : ℕ → ℕ → Slices → Bool
@@ -171,8 +171,8 @@ module _ (e : Around) where
   unfoldable pub jump-outside : ℕ → ℕ → Slices → Answer Slices
   jump-outside k t s =
       if (eqb (known-function t s) 0)
-      (if (not (eqb (section-of t) (section-of k)) || eqb (Image.word (e .image) (address-of k)) 0) (add-reference t s) (add-possible t s))
-      (if (eqb (known-function t s) (e .start)) (fault 8) (add-reference (known-function t s) s))
+      (if (not (eqb (section-of t) (section-of k)) || eqb (Image.word (e .image) (address-of k)) 0) (add-function-reference t s) (add-possible-block t s))
+      (if (eqb (known-function t s) (e .start)) (fault 8) (add-function-reference (known-function t s) s))
 
   -- a jump to another word
   unfoldable pub do-jump-elsewhere : ℕ → ℕ → Walk → Answer Walk
@@ -180,7 +180,7 @@ module _ (e : Around) where
 
   -- a jump to its own word ends the walk of it
   unfoldable pub do-jump : ℕ → ℕ → Walk → Answer Walk
-  do-jump k t w = on-slices (set-ways k (t ∷ [])) w >>= λ v. if (eqb t k) (ok v) (do-jump-elsewhere k t v)
+  do-jump k t w = on-slices (set-branches k (t ∷ [])) w >>= λ v. if (eqb t k) (ok v) (do-jump-elsewhere k t v)
 
   -- the function's end, where it is known, else the last block's
   unfoldable pub known-end : Slices → ℕ
@@ -197,15 +197,15 @@ module _ (e : Around) where
   -- the entries are blocks of the function
   unfoldable pub do-own-table : ℕ → ℕ → Entries → Walk → Answer Walk
   do-own-table k t r w =
-      on-slices (set-table t (r .size)) w >>= λ v.
+      on-slices (set-jump-table-reference t (r .size)) w >>= λ v.
       mark-and-push-all (r .taken) v >>= λ u.
-      on-slices (set-ways k (r .taken)) u
+      on-slices (set-branches k (r .taken)) u
 
   -- otherwise they are possible blocks
   unfoldable pub do-table : ℕ → ℕ → ℕ → Walk → Answer Walk
   do-table k t n w =
       jump-table-entries (e .image) t n (e .start) (known-end (w .slices)) >>= λ r.
-      if (is-own-table k (r .taken) (w .slices)) (do-own-table k t r w) (on-slices (add-all-possible (r .taken)) w)
+      if (is-own-table k (r .taken) (w .slices)) (do-own-table k t r w) (on-slices (add-all-possible-blocks (r .taken)) w)
 
   -- the last function symbol below a, if its size covers a; 0 for none
   abbrev pub lower-symbol : ℕ → ℕ → ℕ → List Symbol → ℕ
@@ -230,7 +230,7 @@ module _ (e : Around) where
   do-branch link t w out =
       if (eqb (refers-to link t (w .slices)) 0)
       (mark-and-push t w >>= λ v. ok (v, out ++ (t ∷ [])))
-      (on-slices (add-reference (refers-to link t (w .slices))) w >>= λ v. ok (v, out))
+      (on-slices (add-function-reference (refers-to link t (w .slices))) w >>= λ v. ok (v, out))
 
   -- "a branch list names a jump table" (7)
   abbrev pub branch-to : Bool → To → Walk → List ℕ → Answer (Walk × List ℕ)
@@ -245,7 +245,7 @@ module _ (e : Around) where
 
   -- the ways on, where there are any
   unfoldable pub do-branches : ℕ → List Branch → Walk → Answer Walk
-  do-branches k bs w = branch-each bs w [] >>= λ r. if (empty (r .1)) (ok (r .0)) (on-slices (set-ways k (r .1)) (r .0))
+  do-branches k bs w = branch-each bs w [] >>= λ r. if (empty (r .1)) (ok (r .0)) (on-slices (set-branches k (r .1)) (r .0))
 
   -- each outcome but go on and illegal ends the block
   unfoldable pub do-outcome : ℕ → ℕ → Outcome → Walk → Answer Walk

@@ -8,7 +8,7 @@ use Rattle.rules.specs.Address.{address-of, section-of}
 use Rattle.rules.specs.Image
 use Rattle.rules.specs.Sequences.{prologue-among}
 use Rattle.rules.specs.Blocks.{startOf, first-start, last-end}
-use Rattle.rules.specs.Slices.{Slices, with-only, with-possible}
+use Rattle.rules.specs.Slices.{Slices, with-only, with-possible-blocks}
 use Rattle.rules.specs.Known.{any-between}
 use Rattle.rules.specs.Step.{Around}
 use Rattle.rules.specs.Analyze.{Analyzed, analyze}
@@ -44,8 +44,8 @@ module _ (e : Around) where
   -- another possible block lies in the trial's blocks: it goes with this one
   unfoldable pub judge-others : Slices → Slices → Answer Verdict
   judge-others s t =
-      if (any (is-other t) (s .possible))
-      (verdict is-not (with-possible s (filter (λ p. not (is-other t p)) (s .possible))))
+      if (any (is-other t) (s .possible-blocks))
+      (verdict is-not (with-possible-blocks s (filter (λ p. not (is-other t p)) (s .possible-blocks))))
       (verdict (own-word t) s)
 
   -- the trial reached back before k: not a tail call
@@ -59,14 +59,14 @@ module _ (e : Around) where
 
   -- "then a trial walk as in `check_tail_call`"
   unfoldable pub trial : ℕ → Slices → Answer Verdict
-  trial k s = judge k s (analyze e k (with-only (s .references)))
+  trial k s = judge k s (analyze e k (with-only (s .function-references)))
 
   -- ---- the tests before it, in order
 
   -- "a reference or known entry from start + 4 up to it, Is"
   unfoldable pub is-referred : ℕ → Slices → Bool
   is-referred k s =
-      any (λ r. leb (e .start + 4) r && leb r k) (s .references) || any-between (e .start + 4) k (e .entries)
+      any (λ r. leb (e .start + 4) r && leb r k) (s .function-references) || any-between (e .start + 4) k (e .entries)
 
   -- "a prologue sequence from the start up to it, Is"
   unfoldable pub prologue-before : ℕ → Bool

@@ -14,8 +14,8 @@ ghost use Rattle.walk.specs.State.{walk-of, Going, Is};
 ghost use Rattle.callback.specs.Around.{IsCodeOf, Safe};
 ghost use Rattle.callback.specs.Lends.{LendsAll, Of};
 ghost use Rattle.run.specs.Steps.{alive, Bits};
-ghost use Rattle.lists.specs.Places.{PENDING, KEYS};
-use lists::places;
+ghost use Rattle.function_slices.specs.Places.{PENDING, KEYS};
+use function_slices::places;
 
 // A pending address is walked from, unless it lies outside code or was visited.
 fn take_pending(
@@ -27,7 +27,14 @@ fn take_pending(
 ) -> walk::Walk
     requires few { ⌜ Few (now sections) ⌝ }
     requires code { ⌜ (code .size ≤ 262144) × (code .number < 16) ⌝ }
-    ensures { λ r. ⌜ ((l : Lent) (e : steps.Around) (k v : List ℕ) → l .sections ≡ now (sections .entry) → e .image ≡ image l → IsCodeOf (e .image) code → Going k v w → Is (rules.take-pending e addr (walk-of (bit (now (visited .entry))) k v w)) (bit (now (visited .entry))) k v r) ⌝ }
+    ensures { λ r.
+        ⌜ ((l : Lent) (e : steps.Around) (k v : List ℕ) →
+        l .sections ≡ now (sections .entry) →
+        e .image ≡ image l →
+        IsCodeOf (e .image) code →
+        Going k v w →
+        Is (rules.take-pending e addr (walk-of (bit (now (visited .entry))) k v w)) (bit (now (visited .entry))) k v
+        r) ⌝ }
 {
     if obj::sections::is_in_section(sections, addr) {
         if addr / 0x1_0000_0000 == code.number {
@@ -45,16 +52,25 @@ fn take_pending(
 fn pop(
     sections: &[u32],
     visited: &[u32; executor::VISITED],
-    k: &[u64],
+    keys: &[u64],
     code: obj::sections::Code,
     w: walk::Walk,
 ) -> walk::Walk
     requires few { ⌜ Few (now sections) ⌝ }
     requires code { ⌜ (code .size ≤ 262144) × (code .number < 16) ⌝ }
-    requires some { ⌜ (length (now k) ≡ KEYS) × ((0 < w .pending) × (w .pending ≤ PENDING)) ⌝ }
-    ensures { λ r. ⌜ ((l : Lent) (e : steps.Around) (v : List ℕ) → l .sections ≡ now (sections .entry) → e .image ≡ image l → IsCodeOf (e .image) code → Going (now (k .entry)) v w → Is (rules.pop e (pending (now (k .entry)) (w .pending)) (walk-of (bit (now (visited .entry))) (now (k .entry)) v w)) (bit (now (visited .entry))) (now (k .entry)) v r) ⌝ }
+    requires some { ⌜ (length (now keys) ≡ KEYS) × ((0 < w .pending) × (w .pending ≤ PENDING)) ⌝ }
+    ensures { λ r.
+        ⌜ ((l : Lent) (e : steps.Around) (v : List ℕ) →
+        l .sections ≡ now (sections .entry) →
+        e .image ≡ image l →
+        IsCodeOf (e .image) code →
+        Going (now (keys .entry)) v w →
+        Is
+        (rules.pop e (pending (now (keys .entry)) (w .pending))
+        (walk-of (bit (now (visited .entry))) (now (keys .entry)) v w))
+        (bit (now (visited .entry))) (now (keys .entry)) v r) ⌝ }
 {
-    let p = executor::pop(k, w.pending);
+    let p = executor::pop(keys, w.pending);
     let mut r = w;
     r.pending = p.count;
     take_pending(sections, visited, code, r, p.addr)
@@ -78,15 +94,24 @@ fn enter(
     objects: &[u32],
     known: &[u64],
     visited: &mut [u32; executor::VISITED],
-    k: &mut [u64; places::KEYS],
-    v: &mut [u64; places::VALUES],
+    keys: &mut [u64; places::KEYS],
+    values: &mut [u64; places::VALUES],
     a: callback::around::Around,
     w: walk::Walk,
 ) -> walk::Walk
     requires lends { ⌜ LendsAll (now sections) (now bytes) (now outcomes) (now functions) (now objects) (now known) a ⌝ }
-    requires going { ⌜ Going (now k) (now v) w ⌝ }
+    requires going { ⌜ Going (now keys) (now values) w ⌝ }
     requires bits { ⌜ length (now visited) ≡ VISITED ⌝ }
-    ensures { λ r. ⌜ Bits (now (visited .exit)) × ((e : steps.Around) (o : Of (now (sections .entry)) (now (bytes .entry)) (now (functions .entry)) (now (objects .entry)) (now (known .entry)) a e) → o .lent .outcomes ≡ now (outcomes .entry) → Is (rules.enter e (w .at) (w .block) (walk-of (bit (now (visited .entry))) (now (k .entry)) (now (v .entry)) w)) (bit (now (visited .exit))) (now (k .exit)) (now (v .exit)) r) ⌝ }
+    ensures { λ r.
+        ⌜ Bits (now (visited .exit)) ×
+        ((e : steps.Around)
+        (o : Of (now (sections .entry)) (now (bytes .entry)) (now (functions .entry)) (now (objects .entry))
+        (now (known .entry)) a e) →
+        o .lent .outcomes ≡ now (outcomes .entry) →
+        Is
+        (rules.enter e (w .at) (w .block)
+        (walk-of (bit (now (visited .entry))) (now (keys .entry)) (now (values .entry)) w))
+        (bit (now (visited .exit))) (now (keys .exit)) (now (values .exit)) r) ⌝ }
 {
     let addr = w.at;
     let x = (addr % 0x1_0000_0000) as u32;
@@ -111,8 +136,8 @@ fn enter(
         objects,
         known,
         visited,
-        k,
-        v,
+        keys,
+        values,
         a,
         r,
         addr,
@@ -136,15 +161,22 @@ fn step(
     objects: &[u32],
     known: &[u64],
     visited: &mut [u32; executor::VISITED],
-    k: &mut [u64; places::KEYS],
-    v: &mut [u64; places::VALUES],
+    keys: &mut [u64; places::KEYS],
+    values: &mut [u64; places::VALUES],
     a: callback::around::Around,
     w: walk::Walk,
 ) -> walk::Walk
     requires lends { ⌜ LendsAll (now sections) (now bytes) (now outcomes) (now functions) (now objects) (now known) a ⌝ }
-    requires going { ⌜ Going (now k) (now v) w × (alive w ≡ true) ⌝ }
+    requires going { ⌜ Going (now keys) (now values) w × (alive w ≡ true) ⌝ }
     requires bits { ⌜ length (now visited) ≡ VISITED ⌝ }
-    ensures { λ r. ⌜ Bits (now (visited .exit)) × ((e : steps.Around) (o : Of (now (sections .entry)) (now (bytes .entry)) (now (functions .entry)) (now (objects .entry)) (now (known .entry)) a e) → o .lent .outcomes ≡ now (outcomes .entry) → Is (rules.step e (walk-of (bit (now (visited .entry))) (now (k .entry)) (now (v .entry)) w)) (bit (now (visited .exit))) (now (k .exit)) (now (v .exit)) r) ⌝ }
+    ensures { λ r.
+        ⌜ Bits (now (visited .exit)) ×
+        ((e : steps.Around)
+        (o : Of (now (sections .entry)) (now (bytes .entry)) (now (functions .entry)) (now (objects .entry))
+        (now (known .entry)) a e) →
+        o .lent .outcomes ≡ now (outcomes .entry) →
+        Is (rules.step e (walk-of (bit (now (visited .entry))) (now (keys .entry)) (now (values .entry)) w))
+        (bit (now (visited .exit))) (now (keys .exit)) (now (values .exit)) r) ⌝ }
 {
     if w.place == 1 {
         return enter(
@@ -155,13 +187,13 @@ fn step(
             objects,
             known,
             visited,
-            k,
-            v,
+            keys,
+            values,
             a,
             w,
         );
     }
-    pop(sections, visited, k, a.code, w)
+    pop(sections, visited, keys, a.code, w)
 }
 
 // Executor::run.
@@ -173,15 +205,22 @@ pub fn run_walk(
     objects: &[u32],
     known: &[u64],
     visited: &mut [u32; executor::VISITED],
-    k: &mut [u64; places::KEYS],
-    v: &mut [u64; places::VALUES],
+    keys: &mut [u64; places::KEYS],
+    values: &mut [u64; places::VALUES],
     a: callback::around::Around,
     w: walk::Walk,
 ) -> walk::Walk
     requires lends { ⌜ LendsAll (now sections) (now bytes) (now outcomes) (now functions) (now objects) (now known) a ⌝ }
-    requires going { ⌜ Going (now k) (now v) w ⌝ }
+    requires going { ⌜ Going (now keys) (now values) w ⌝ }
     requires bits { ⌜ length (now visited) ≡ VISITED ⌝ }
-    ensures { λ r. ⌜ Bits (now (visited .exit)) × ((e : steps.Around) (o : Of (now (sections .entry)) (now (bytes .entry)) (now (functions .entry)) (now (objects .entry)) (now (known .entry)) a e) → o .lent .outcomes ≡ now (outcomes .entry) → Is (rules.run-walk e (walk-of (bit (now (visited .entry))) (now (k .entry)) (now (v .entry)) w)) (bit (now (visited .exit))) (now (k .exit)) (now (v .exit)) r) ⌝ }
+    ensures { λ r.
+        ⌜ Bits (now (visited .exit)) ×
+        ((e : steps.Around)
+        (o : Of (now (sections .entry)) (now (bytes .entry)) (now (functions .entry)) (now (objects .entry))
+        (now (known .entry)) a e) →
+        o .lent .outcomes ≡ now (outcomes .entry) →
+        Is (rules.run-walk e (walk-of (bit (now (visited .entry))) (now (keys .entry)) (now (values .entry)) w))
+        (bit (now (visited .exit))) (now (keys .exit)) (now (values .exit)) r) ⌝ }
 {
     let mut r = w;
     while is_alive(r) {
@@ -193,8 +232,8 @@ pub fn run_walk(
             objects,
             known,
             visited,
-            k,
-            v,
+            keys,
+            values,
             a,
             r,
         );

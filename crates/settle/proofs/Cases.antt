@@ -11,16 +11,16 @@ use Rattle.rules.specs.Loop.{cases, Holds, good, holds-at, map-holds, if-holds,
 use Rattle.rules.specs.Address.{address-of, section-of}
 use Rattle.rules.specs.Image as images
 use Rattle.rules.specs.Ordered.{self, upper}
-use Rattle.rules.specs.Slices.{Slices, discard-possible, add-reference}
+use Rattle.rules.specs.Slices.{Slices, discard-possible-block, add-function-reference}
 use Rattle.rules.specs.Step as steps
 use Rattle.rules.specs.Analyze as analysis
 use Rattle.rules.specs.TailCall as calls
 use Rattle.rules.specs.TailCall.{is-not, is, possibly}
 use Rattle.rules.specs.Settle as rules
-use Rattle.rules.proofs.Faults.{add-reference-met}
-use Rattle.lists.specs.View as lists
-use Rattle.lists.specs.View.{view, Fit}
-use Rattle.lists.specs.declared.Small.{Small}
+use Rattle.rules.proofs.Faults.{add-function-reference-met}
+use Rattle.function_slices.specs.View as lists
+use Rattle.function_slices.specs.View.{view, Fit}
+use Rattle.function_slices.specs.declared.Small.{Small}
 use Rattle.walk.specs.State.{Low, Listed}
 use Rattle.walk.proofs.Answers.{listed}
 use Rattle.analyze.specs.Analysis.{answered, IsAnalyzed}
@@ -62,7 +62,7 @@ module _ (k v : List ℕ) (r : Settling) where
 abbrev lists-only : Answer analysis.Analyzed → Answer Slices
 lists-only a = a >>= λ y. ok (y .slices)
 
-module _ (k v k₁ v₁ : List ℕ) (s t : Small) (addr : ℕ) (gone : lists.Is (ok (discard-possible addr (view k v s))) k k₁ v₁ t) where
+module _ (k v k₁ v₁ : List ℕ) (s t : Small) (addr : ℕ) (gone : lists.Is (ok (discard-possible-block addr (view k v s))) k k₁ v₁ t) where
   pub fits-discarded : Fit k₁ v₁ t × (t .fault ≡ 0)
   fits-discarded = (gone .told .fit, gone .told .fine)
 
@@ -72,7 +72,7 @@ module _ (k v k₁ v₁ : List ℕ) (s t : Small) (addr : ℕ) (gone : lists.Is 
     unfolding rules.include _>>=_ answered
     walked j = record { is = by; fit = j .fits }
       where
-        by : lists-only (analysis.analyze e addr (discard-possible addr (view k v s))) ≡ if (eqb (r .small .fault) 0) (ok (view k′ v′ (r .small))) (fault (r .small .fault))
+        by : lists-only (analysis.analyze e addr (discard-possible-block addr (view k v s))) ≡ if (eqb (r .small .fault) 0) (ok (view k′ v′ (r .small))) (fault (r .small .fault))
         by =
             let y : analysis.Analyzed = record { slices = view k′ v′ (r .small); found = r .found } in
             ap (λ (d : Slices). lists-only (analysis.analyze e addr d)) (sym (gone .told .same)) ∙
@@ -84,9 +84,9 @@ module _ (k v k₁ v₁ : List ℕ) (s t : Small) (addr : ℕ) (gone : lists.Is 
     included j c = from-lists k′ v′ _ _ c (walked j) refl
 
   -- it is referred to
-  pub referred : (k′ v′ : List ℕ) (u : Small) → lists.Is (add-reference addr (view k₁ v₁ t)) k₁ k′ v′ u → (c : ℕ) → IsSettling (looking (add-reference addr (discard-possible addr (view k v s))) c) k′ v′ (record { small = u; current = c })
+  pub referred : (k′ v′ : List ℕ) (u : Small) → lists.Is (add-function-reference addr (view k₁ v₁ t)) k₁ k′ v′ u → (c : ℕ) → IsSettling (looking (add-function-reference addr (discard-possible-block addr (view k v s))) c) k′ v′ (record { small = u; current = c })
   referred k′ v′ u j c =
-      let l : Listed (add-reference addr (view k₁ v₁ t)) k′ v′ u = listed _ k′ v′ u (add-reference-met _ _) (j .told) in
+      let l : Listed (add-function-reference addr (view k₁ v₁ t)) k′ v′ u = listed _ k′ v′ u (add-function-reference-met _ _) (j .told) in
       from-lists k′ v′ _ _ c (rw (gone .told .same) at l) refl
 
 -- ---- by the answer of its test
@@ -107,7 +107,7 @@ module _ (e : steps.Around) (low : ℕ) (last : Bool) (addr : ℕ) (k v : List �
     unfolding rules.settle
     settled-not h i = record { is = ap (λ (y : TailCall). rules.settle e low last addr (answer-of y) (view k v s)) h ∙ i .is; fits = i .fits }
 
-    pub settled-is : answer ≡ Is → IsSettling (looking (add-reference addr (discard-possible addr (view k v s))) low) k′ v′ r → IsSettling (rules.settle e low last addr (answer-of answer) (view k v s)) k′ v′ r
+    pub settled-is : answer ≡ Is → IsSettling (looking (add-function-reference addr (discard-possible-block addr (view k v s))) low) k′ v′ r → IsSettling (rules.settle e low last addr (answer-of answer) (view k v s)) k′ v′ r
     unfolding rules.settle
     settled-is h i = record { is = ap (λ (y : TailCall). rules.settle e low last addr (answer-of y) (view k v s)) h ∙ i .is; fits = i .fits }
 
@@ -147,13 +147,13 @@ near e k s = if-holds (λ _. good not-one) (λ _. if-holds (λ _. good own) (λ 
 
 -- ---- the next one
 
-module _ (e : steps.Around) (low : ℕ) (last : Bool) (k v k₁ v₁ : List ℕ) (t : Settling) (addr : ℕ) (j : Judged) (is-next : addr ≡ upper self (t .current) 0 (view k v (t .small) .possible))
+module _ (e : steps.Around) (low : ℕ) (last : Bool) (k v k₁ v₁ : List ℕ) (t : Settling) (addr : ℕ) (j : Judged) (is-next : addr ≡ upper self (t .current) 0 (view k v (t .small) .possible-blocks))
     (d : Decides (calls.check-tail-call e addr (view k v (t .small))) k k₁ v₁ j) where
   decided : j .small .fault ≡ 0 → calls.check-tail-call e addr (view k v (t .small)) ≡ calls.verdict (answer-of (j .answer)) (view k₁ v₁ (j .small))
   decided z = d .is ∙ if-true (eq-eqb _ _ z) _ _
 
   stepped : rules.settle-step e low last (settling-of k v t) ≡ (calls.check-tail-call e addr (view k v (t .small)) >>= λ w. rules.settle e low last addr (w .answer) (w .slices))
-  unfolding rules.settle-step rules.next-possible
+  unfolding rules.settle-step rules.next-possible-block
   stepped = ap (λ (y : ℕ). calls.check-tail-call e y (view k v (t .small)) >>= λ w. rules.settle e low last y (w .answer) (w .slices)) (sym is-next)
 
   pub step-fails : (j .small .fault ≡ 0 → ⊥) → (c : ℕ) → IsSettling (rules.settle-step e low last (settling-of k v t)) k₁ v₁ (record { small = j .small; current = c })

@@ -14,23 +14,23 @@ use Rattle.rules.specs.Ordered.{self, upper}
 use Rattle.rules.specs.Step as steps
 use Rattle.rules.specs.Settle as rules
 use Rattle.rules.proofs.SettlingEnds.{Few, settle-all-step, unsettled-falls}
-use Rattle.lists.specs.View.{view, part, Fit}
-use Rattle.lists.specs.declared.Small.{Small}
-use Rattle.lists.proofs.Parts.{part-length}
+use Rattle.function_slices.specs.View.{view, part, Fit}
+use Rattle.function_slices.specs.declared.Small.{Small}
+use Rattle.function_slices.proofs.Parts.{part-length}
 use Rattle.callback.specs.Lends.{Of, LendsAll}
 use Rattle.callback_around.specs.declared.around.Around.{Around}
-use Rattle.slices.proofs.Loops.{aimed-of}
+use Rattle.passes.proofs.Loops.{aimed-of}
 use Rattle.settle.specs.Settled.{settling-of, IsSettling}
 use Rattle.settle.specs.declared.Settling.{Settling}
 use Rattle.settle.proofs.Cases.{settled-ok, settled-fault, stays}
-use Rattle.lists.specs.Places.{POSSIBLE, AT-POSSIBLE}
+use Rattle.function_slices.specs.Places.{POSSIBLE, AT-POSSIBLE}
 
 -- ---- the measure
 
 left-by : rules.Settling → ℕ
 left-by t =
-    16641 * (256 - length (t .slices .blocks)) + 129 * length (t .slices .possible) +
-    length (filter (λ p. leb (t .current) p) (t .slices .possible))
+    16641 * (256 - length (t .slices .blocks)) + 129 * length (t .slices .possible-blocks) +
+    length (filter (λ p. leb (t .current) p) (t .slices .possible-blocks))
 
 left-is : (e : steps.Around) (low : ℕ) (last : Bool) (t : rules.Settling) → rules.unsettled e low last t ≡ left-by t
 unfolding rules.unsettled left-by
@@ -42,20 +42,20 @@ left k v t = left-by (settling-of k v t)
 
 -- ---- whether one is left
 
-few : (k v : List ℕ) (s : Small) → Fit k v s → length (view k v s .possible) ≤ POSSIBLE
+few : (k v : List ℕ) (s : Small) → Fit k v s → length (view k v s .possible-blocks) ≤ POSSIBLE
 unfolding view
 few k v s f =
     let l : length (part AT-POSSIBLE POSSIBLE k) ≡ 128 = part-length AT-POSSIBLE POSSIBLE k (omega (arith, f .keys)) in
-    let n : length (take (s .possible) (part AT-POSSIBLE POSSIBLE k)) ≡ s .possible = length-take-le (s .possible) (part AT-POSSIBLE POSSIBLE k) (omega (arith, f .held .possible-fit)) in
+    let n : length (take (s .«possible_blocks») (part AT-POSSIBLE POSSIBLE k)) ≡ s .«possible_blocks» = length-take-le (s .«possible_blocks») (part AT-POSSIBLE POSSIBLE k) (omega (arith, f .held .possible-fit)) in
     omega (arith, f .held .possible-fit)
 
-module _ (k v : List ℕ) (t : Settling) (next : ℕ) (is-next : next ≡ upper self (t .current) 0 (view k v (t .small) .possible)) where
+module _ (k v : List ℕ) (t : Settling) (next : ℕ) (is-next : next ≡ upper self (t .current) 0 (view k v (t .small) .possible-blocks)) where
   more : (next ≡ 0 → ⊥) → rules.is-unsettled (settling-of k v t) ≡ true
-  unfolding rules.is-unsettled rules.next-possible
+  unfolding rules.is-unsettled rules.next-possible-block
   more h = rw (← is-next, ne-eqb next 0 h) refl
 
   none-left : next ≡ 0 → rules.is-unsettled (settling-of k v t) ≡ false
-  unfolding rules.is-unsettled rules.next-possible
+  unfolding rules.is-unsettled rules.next-possible-block
   none-left h = rw (← is-next, eq-eqb next 0 h) refl
 
 -- ---- the loop
@@ -69,7 +69,7 @@ module _ (s b p f x n : List ℕ) (a : Around) (low : ℕ) (last : Bool) where
   pub turning-first : (k v : List ℕ) (s₀ : Small) → Fit k v s₀ → s₀ .fault ≡ 0 → Turning k v s₀ k v (record { small = s₀; current = low })
   turning-first k v s₀ g z = record { fit = g; fine = z; same = λ e o q. refl }
 
-  module _ (k₀ v₀ : List ℕ) (s₀ : Small) (k v : List ℕ) (t : Settling) (r : Turning k₀ v₀ s₀ k v t) (next : ℕ) (is-next : next ≡ upper self (t .current) 0 (view k v (t .small) .possible)) where
+  module _ (k₀ v₀ : List ℕ) (s₀ : Small) (k v : List ℕ) (t : Settling) (r : Turning k₀ v₀ s₀ k v t) (next : ℕ) (is-next : next ≡ upper self (t .current) 0 (view k v (t .small) .possible-blocks)) where
     module _ (some : next ≡ 0 → ⊥) (k′ v′ : List ℕ) (t′ : Settling) (made : (e : steps.Around) (o : Of s b f x n a e) → o .lent .outcomes ≡ p → IsSettling (rules.settle-step e low last (settling-of k v t)) k′ v′ t′) where
       few-here : (e : steps.Around) (o : Of s b f x n a e) → Few e low last (aimed-of s b p f x n a e o) (settling-of k v t)
       few-here e o = record { few = few k v (t .small) (r .fit) }

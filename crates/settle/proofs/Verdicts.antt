@@ -11,9 +11,9 @@ use Rattle.rules.specs.Slices.{Slices, with-only}
 use Rattle.rules.specs.Step as steps
 use Rattle.rules.specs.Analyze as analysis
 use Rattle.rules.specs.TailCall as rules
-use Rattle.lists.specs.View as lists
-use Rattle.lists.specs.View.{view, Fit}
-use Rattle.lists.specs.declared.Small.{Small}
+use Rattle.function_slices.specs.View as lists
+use Rattle.function_slices.specs.View.{view, Fit}
+use Rattle.function_slices.specs.declared.Small.{Small}
 use Rattle.analyze.specs.Analysis.{answered, IsAnalyzed}
 use Rattle.analyze.specs.declared.Analyzed.{Analyzed}
 use Rattle.tail_calls.specs.Asked.{tested}
@@ -37,9 +37,9 @@ pub trial-begins : (k k′ v′ : List ℕ) (t : Small) (x : Slices) → lists.I
 trial-begins k k′ v′ t x i = (i .told .fit, i .told .fine)
 
 -- what the trial comes to
-module _ (e : steps.Around) (addr : ℕ) (x : Slices) (t₀ t₁ v″ : List ℕ) (t : Small) (tk tv : List ℕ) (r : Analyzed) (begins : lists.Is (ok (with-only (x .references))) t₀ t₁ v″ t) where
+module _ (e : steps.Around) (addr : ℕ) (x : Slices) (t₀ t₁ v″ : List ℕ) (t : Small) (tk tv : List ℕ) (r : Analyzed) (begins : lists.Is (ok (with-only (x .function-references))) t₀ t₁ v″ t) where
   pub trial-comes : IsAnalyzed (analysis.analyze e addr (view t₁ v″ t)) tk tv r → (k k′ v′ : List ℕ) (j : Judged) → Decides (rules.judge e addr x (trial-answer tk tv (r .small) (r .found))) k k′ v′ j → Decides (rules.trial e addr x) k k′ v′ j
   unfolding rules.trial trial-answer answered
   trial-comes i k k′ v′ j d =
-      let q : analysis.analyze e addr (with-only (x .references)) ≡ answered tk tv r = ap (analysis.analyze e addr) (sym (begins .told .same)) ∙ i .is in
+      let q : analysis.analyze e addr (with-only (x .function-references)) ≡ answered tk tv r = ap (analysis.analyze e addr) (sym (begins .told .same)) ∙ i .is in
       record { is = ap (rules.judge e addr x) q ∙ d .is; fit = d .fit; pending = d .pending }

@@ -6,7 +6,7 @@ use lib.Dec.{eqb}
 use Rattle.rules.specs.Choice.{if, Answer, ok, fault, _>>=_}
 use Rattle.rules.specs.Slices.{Slices}
 use Rattle.rules.specs.Settle as rules
-use Rattle.lists.specs.View.{view, Fit}
+use Rattle.function_slices.specs.View.{view, Fit}
 use Rattle.settle.specs.declared.Settling.{Settling}
 
 -- the lists, and where to look

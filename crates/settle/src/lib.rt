@@ -4,20 +4,20 @@ mod trials;
 ghost use mathlib.Core.Path.{_≡_};
 ghost use mathlib.Core.Bool.{Bool};
 ghost use Prim.Native.Nat.{ℕ};
-ghost use Rattle.rules.specs.Slices.{add-reference, discard-possible};
+ghost use Rattle.rules.specs.Slices.{add-function-reference, discard-possible-block};
 ghost use Rattle.rules.specs.Step as steps;
 ghost use Rattle.rules.specs.Settle as rules;
-ghost use Rattle.lists.specs.View.{view, Fit};
+ghost use Rattle.function_slices.specs.View.{view, Fit};
 ghost use Rattle.walk.specs.State.{Low};
 ghost use Rattle.callback.specs.Lends.{LendsAll, Of};
 ghost use Rattle.tail_calls.specs.Judged.{answer-of};
 ghost use Rattle.tail_calls.specs.declared.TailCall.the-variants.{Possible};
 ghost use Rattle.settle.specs.Settled.{settling-of, looking, IsSettling};
-use lists::places;
+use function_slices::places;
 
 // A function's lists, and from where possible blocks are looked at.
 pub struct Settling {
-    pub small: lists::Small,
+    pub small: function_slices::Small,
     pub current: u64,
 }
 
@@ -29,18 +29,26 @@ fn include(
     functions: &[u32],
     objects: &[u32],
     known: &[u64],
-    k: &mut [u64; places::KEYS],
-    v: &mut [u64; places::VALUES],
+    keys: &mut [u64; places::KEYS],
+    values: &mut [u64; places::VALUES],
     a: callback::around::Around,
-    s: lists::Small,
+    slices: function_slices::Small,
     addr: u64,
     current: u64,
 ) -> Settling
     requires lends { ⌜ LendsAll (now sections) (now bytes) (now outcomes) (now functions) (now objects) (now known) a ⌝ }
-    requires fit { ⌜ Fit (now k) (now v) s × (s .fault ≡ 0) ⌝ }
-    ensures { λ r. ⌜ ((e : steps.Around) (o : Of (now (sections .entry)) (now (bytes .entry)) (now (functions .entry)) (now (objects .entry)) (now (known .entry)) a e) → o .lent .outcomes ≡ now (outcomes .entry) → (low : ℕ) (last : Bool) → IsSettling (looking (rules.include e low last addr (view (now (k .entry)) (now (v .entry)) s)) current) (now (k .exit)) (now (v .exit)) r) ⌝ }
+    requires fit { ⌜ Fit (now keys) (now values) slices × (slices .fault ≡ 0) ⌝ }
+    ensures { λ r.
+        ⌜ ((e : steps.Around)
+        (o : Of (now (sections .entry)) (now (bytes .entry)) (now (functions .entry)) (now (objects .entry))
+        (now (known .entry)) a e) →
+        o .lent .outcomes ≡ now (outcomes .entry) →
+        (low : ℕ) (last : Bool) →
+        IsSettling
+        (looking (rules.include e low last addr (view (now (keys .entry)) (now (values .entry)) slices)) current)
+        (now (keys .exit)) (now (values .exit)) r) ⌝ }
 {
-    let t = lists::discard_possible(k, v, s, addr);
+    let t = function_slices::discard_possible_block(keys, values, slices, addr);
     let r = analyze::analyze(
         sections,
         bytes,
@@ -48,8 +56,8 @@ fn include(
         functions,
         objects,
         known,
-        k,
-        v,
+        keys,
+        values,
         a,
         t,
         addr,
@@ -60,17 +68,23 @@ fn include(
 
 // The possible block at addr is a function of its own, which is referred to.
 fn refer(
-    k: &mut [u64; places::KEYS],
-    v: &mut [u64; places::VALUES],
-    s: lists::Small,
+    keys: &mut [u64; places::KEYS],
+    values: &mut [u64; places::VALUES],
+    slices: function_slices::Small,
     addr: u64,
     current: u64,
 ) -> Settling
-    requires fit { ⌜ Fit (now k) (now v) s × (s .fault ≡ 0) ⌝ }
-    ensures { λ r. ⌜ IsSettling (looking (add-reference addr (discard-possible addr (view (now (k .entry)) (now (v .entry)) s))) current) (now (k .exit)) (now (v .exit)) r ⌝ }
+    requires fit { ⌜ Fit (now keys) (now values) slices × (slices .fault ≡ 0) ⌝ }
+    ensures { λ r.
+        ⌜ IsSettling
+        (looking
+        (add-function-reference addr
+        (discard-possible-block addr (view (now (keys .entry)) (now (values .entry)) slices)))
+        current)
+        (now (keys .exit)) (now (values .exit)) r ⌝ }
 {
-    let others = lists::discard_possible(k, v, s, addr);
-    let small = lists::add_reference(k, v, others, addr);
+    let others = function_slices::discard_possible_block(keys, values, slices, addr);
+    let small = function_slices::add_function_reference(keys, values, others, addr);
     Settling { small, current }
 }
 
@@ -82,17 +96,25 @@ fn pass(
     functions: &[u32],
     objects: &[u32],
     known: &[u64],
-    k: &mut [u64; places::KEYS],
-    v: &mut [u64; places::VALUES],
+    keys: &mut [u64; places::KEYS],
+    values: &mut [u64; places::VALUES],
     a: callback::around::Around,
-    s: lists::Small,
+    slices: function_slices::Small,
     addr: u64,
     last: bool,
 ) -> Settling
     requires lends { ⌜ LendsAll (now sections) (now bytes) (now outcomes) (now functions) (now objects) (now known) a ⌝ }
-    requires fit { ⌜ Fit (now k) (now v) s × (s .fault ≡ 0) ⌝ }
+    requires fit { ⌜ Fit (now keys) (now values) slices × (slices .fault ≡ 0) ⌝ }
     requires near { ⌜ Low addr ⌝ }
-    ensures { λ r. ⌜ ((e : steps.Around) (o : Of (now (sections .entry)) (now (bytes .entry)) (now (functions .entry)) (now (objects .entry)) (now (known .entry)) a e) → o .lent .outcomes ≡ now (outcomes .entry) → (low : ℕ) → IsSettling (rules.settle e low last addr (answer-of Possible) (view (now (k .entry)) (now (v .entry)) s)) (now (k .exit)) (now (v .exit)) r) ⌝ }
+    ensures { λ r.
+        ⌜ ((e : steps.Around)
+        (o : Of (now (sections .entry)) (now (bytes .entry)) (now (functions .entry)) (now (objects .entry))
+        (now (known .entry)) a e) →
+        o .lent .outcomes ≡ now (outcomes .entry) →
+        (low : ℕ) →
+        IsSettling
+        (rules.settle e low last addr (answer-of Possible) (view (now (keys .entry)) (now (values .entry)) slices))
+        (now (keys .exit)) (now (values .exit)) r) ⌝ }
 {
     let current = addr + 4;
     if last {
@@ -103,15 +125,18 @@ fn pass(
             functions,
             objects,
             known,
-            k,
-            v,
+            keys,
+            values,
             a,
-            s,
+            slices,
             addr,
             current,
         );
     }
-    Settling { small: s, current }
+    Settling {
+        small: slices,
+        current,
+    }
 }
 
 // The possible block at addr is settled by the answer of its tail-call test. One that may be either lies in the function's section,
@@ -123,19 +148,26 @@ fn settle(
     functions: &[u32],
     objects: &[u32],
     known: &[u64],
-    k: &mut [u64; places::KEYS],
-    v: &mut [u64; places::VALUES],
+    keys: &mut [u64; places::KEYS],
+    values: &mut [u64; places::VALUES],
     a: callback::around::Around,
-    s: lists::Small,
+    slices: function_slices::Small,
     addr: u64,
     answer: tail_calls::TailCall,
     low: u64,
     last: bool,
 ) -> Settling
     requires lends { ⌜ LendsAll (now sections) (now bytes) (now outcomes) (now functions) (now objects) (now known) a ⌝ }
-    requires fit { ⌜ Fit (now k) (now v) s × (s .fault ≡ 0) ⌝ }
+    requires fit { ⌜ Fit (now keys) (now values) slices × (slices .fault ≡ 0) ⌝ }
     requires near { ⌜ (answer ≡ Possible → Low addr) ⌝ }
-    ensures { λ r. ⌜ ((e : steps.Around) (o : Of (now (sections .entry)) (now (bytes .entry)) (now (functions .entry)) (now (objects .entry)) (now (known .entry)) a e) → o .lent .outcomes ≡ now (outcomes .entry) → IsSettling (rules.settle e low last addr (answer-of answer) (view (now (k .entry)) (now (v .entry)) s)) (now (k .exit)) (now (v .exit)) r) ⌝ }
+    ensures { λ r.
+        ⌜ ((e : steps.Around)
+        (o : Of (now (sections .entry)) (now (bytes .entry)) (now (functions .entry)) (now (objects .entry))
+        (now (known .entry)) a e) →
+        o .lent .outcomes ≡ now (outcomes .entry) →
+        IsSettling
+        (rules.settle e low last addr (answer-of answer) (view (now (keys .entry)) (now (values .entry)) slices))
+        (now (keys .exit)) (now (values .exit)) r) ⌝ }
 {
     match answer {
         tail_calls::TailCall::Not => include(
@@ -145,14 +177,14 @@ fn settle(
             functions,
             objects,
             known,
-            k,
-            v,
+            keys,
+            values,
             a,
-            s,
+            slices,
             addr,
             low,
         ),
-        tail_calls::TailCall::Is => refer(k, v, s, addr, low),
+        tail_calls::TailCall::Is => refer(keys, values, slices, addr, low),
         tail_calls::TailCall::Possible => pass(
             sections,
             bytes,
@@ -160,10 +192,10 @@ fn settle(
             functions,
             objects,
             known,
-            k,
-            v,
+            keys,
+            values,
             a,
-            s,
+            slices,
             addr,
             last,
         ),
@@ -178,20 +210,26 @@ fn settle_step(
     functions: &[u32],
     objects: &[u32],
     known: &[u64],
-    k: &mut [u64; places::KEYS],
-    v: &mut [u64; places::VALUES],
+    keys: &mut [u64; places::KEYS],
+    values: &mut [u64; places::VALUES],
     a: callback::around::Around,
-    t: Settling,
+    settling: Settling,
     low: u64,
     last: bool,
 ) -> Settling
     requires lends { ⌜ LendsAll (now sections) (now bytes) (now outcomes) (now functions) (now objects) (now known) a ⌝ }
-    requires fit { ⌜ Fit (now k) (now v) (t .small) × (t .small .fault ≡ 0) ⌝ }
+    requires fit { ⌜ Fit (now keys) (now values) (settling .small) × (settling .small .fault ≡ 0) ⌝ }
     requires low { ⌜ Low (a .start) ⌝ }
-    ensures { λ r. ⌜ ((e : steps.Around) (o : Of (now (sections .entry)) (now (bytes .entry)) (now (functions .entry)) (now (objects .entry)) (now (known .entry)) a e) → o .lent .outcomes ≡ now (outcomes .entry) → IsSettling (rules.settle-step e low last (settling-of (now (k .entry)) (now (v .entry)) t)) (now (k .exit)) (now (v .exit)) r) ⌝ }
+    ensures { λ r.
+        ⌜ ((e : steps.Around)
+        (o : Of (now (sections .entry)) (now (bytes .entry)) (now (functions .entry)) (now (objects .entry))
+        (now (known .entry)) a e) →
+        o .lent .outcomes ≡ now (outcomes .entry) →
+        IsSettling (rules.settle-step e low last (settling-of (now (keys .entry)) (now (values .entry)) settling))
+        (now (keys .exit)) (now (values .exit)) r) ⌝ }
 {
-    let s = t.small;
-    let addr = lists::next_possible(k, v, s, t.current);
+    let s = settling.small;
+    let addr = function_slices::next_possible_block(keys, values, s, settling.current);
     let judged = trials::check_tail_call(
         sections,
         bytes,
@@ -199,8 +237,8 @@ fn settle_step(
         functions,
         objects,
         known,
-        k,
-        v,
+        keys,
+        values,
         a,
         s,
         addr,
@@ -220,8 +258,8 @@ fn settle_step(
         functions,
         objects,
         known,
-        k,
-        v,
+        keys,
+        values,
         a,
         small,
         addr,
@@ -239,23 +277,30 @@ pub fn settle_all(
     functions: &[u32],
     objects: &[u32],
     known: &[u64],
-    k: &mut [u64; places::KEYS],
-    v: &mut [u64; places::VALUES],
+    keys: &mut [u64; places::KEYS],
+    values: &mut [u64; places::VALUES],
     a: callback::around::Around,
-    s: lists::Small,
+    slices: function_slices::Small,
     low: u64,
     last: bool,
 ) -> Settling
     requires lends { ⌜ LendsAll (now sections) (now bytes) (now outcomes) (now functions) (now objects) (now known) a ⌝ }
-    requires fit { ⌜ Fit (now k) (now v) s × (s .fault ≡ 0) ⌝ }
+    requires fit { ⌜ Fit (now keys) (now values) slices × (slices .fault ≡ 0) ⌝ }
     requires low { ⌜ Low (a .start) ⌝ }
-    ensures { λ r. ⌜ ((e : steps.Around) (o : Of (now (sections .entry)) (now (bytes .entry)) (now (functions .entry)) (now (objects .entry)) (now (known .entry)) a e) → o .lent .outcomes ≡ now (outcomes .entry) → IsSettling (rules.settle-all e low last (rules.settling (view (now (k .entry)) (now (v .entry)) s) low)) (now (k .exit)) (now (v .exit)) r) ⌝ }
+    ensures { λ r.
+        ⌜ ((e : steps.Around)
+        (o : Of (now (sections .entry)) (now (bytes .entry)) (now (functions .entry)) (now (objects .entry))
+        (now (known .entry)) a e) →
+        o .lent .outcomes ≡ now (outcomes .entry) →
+        IsSettling
+        (rules.settle-all e low last (rules.settling (view (now (keys .entry)) (now (values .entry)) slices) low))
+        (now (keys .exit)) (now (values .exit)) r) ⌝ }
 {
     let mut t = Settling {
-        small: s,
+        small: slices,
         current: low,
     };
-    while lists::next_possible(k, v, t.small, t.current) != 0 {
+    while function_slices::next_possible_block(keys, values, t.small, t.current) != 0 {
         t = settle_step(
             sections,
             bytes,
@@ -263,8 +308,8 @@ pub fn settle_all(
             functions,
             objects,
             known,
-            k,
-            v,
+            keys,
+            values,
             a,
             t,
             low,

@@ -4,10 +4,10 @@ ghost use mathlib.Core.List.{List};
 ghost use Prim.Native.Nat.{ℕ, _<_};
 ghost use Rattle.rules.specs.Step as steps;
 ghost use Rattle.rules.specs.TailCall as rules;
-ghost use Rattle.lists.specs.View.{view, Fit};
+ghost use Rattle.function_slices.specs.View.{view, Fit};
 ghost use Rattle.callback.specs.Lends.{LendsAll, Of};
 ghost use Rattle.tail_calls.specs.Judged.{Decides};
-use lists::places;
+use function_slices::places;
 
 // The trial walks from addr with lists of its own, in which only the references stand.
 fn trial(
@@ -17,19 +17,25 @@ fn trial(
     functions: &[u32],
     objects: &[u32],
     known: &[u64],
-    k: &mut [u64; places::KEYS],
-    v: &[u64],
+    keys: &mut [u64; places::KEYS],
+    values: &[u64],
     a: callback::around::Around,
-    s: lists::Small,
+    slices: function_slices::Small,
     addr: u64,
 ) -> tail_calls::Judged
     requires lends { ⌜ LendsAll (now sections) (now bytes) (now outcomes) (now functions) (now objects) (now known) a ⌝ }
-    requires fit { ⌜ Fit (now k) (now v) s × (s .fault ≡ 0) ⌝ }
-    ensures { λ r. ⌜ ((e : steps.Around) (o : Of (now (sections .entry)) (now (bytes .entry)) (now (functions .entry)) (now (objects .entry)) (now (known .entry)) a e) → o .lent .outcomes ≡ now (outcomes .entry) → Decides (rules.trial e addr (view (now (k .entry)) (now (v .entry)) s)) (now (k .entry)) (now (k .exit)) (now (v .entry)) r) ⌝ }
+    requires fit { ⌜ Fit (now keys) (now values) slices × (slices .fault ≡ 0) ⌝ }
+    ensures { λ r.
+        ⌜ ((e : steps.Around)
+        (o : Of (now (sections .entry)) (now (bytes .entry)) (now (functions .entry)) (now (objects .entry))
+        (now (known .entry)) a e) →
+        o .lent .outcomes ≡ now (outcomes .entry) →
+        Decides (rules.trial e addr (view (now (keys .entry)) (now (values .entry)) slices)) (now (keys .entry))
+        (now (keys .exit)) (now (values .entry)) r) ⌝ }
 {
     let mut tk: [u64; places::KEYS] = [0; places::KEYS];
     let mut tv: [u64; places::VALUES] = [0; places::VALUES];
-    let t = lists::copy_references(k, v, s, &mut tk, &mut tv);
+    let t = function_slices::copy_function_references(keys, values, slices, &mut tk, &mut tv);
     let r = analyze::analyze(
         sections,
         bytes,
@@ -44,13 +50,16 @@ fn trial(
         addr,
     );
     let small = r.small;
-    tail_calls::judge(k, v, s, &tk, &tv, small, r.found, addr)
+    tail_calls::judge(keys, values, slices, &tk, &tv, small, r.found, addr)
 }
 
-fn answered(s: lists::Small, answer: tail_calls::TailCall) -> tail_calls::Judged
-    ensures { λ r. ⌜ r ≡ record { small = s; answer = answer } ⌝ }
+fn answered(slices: function_slices::Small, answer: tail_calls::TailCall) -> tail_calls::Judged
+    ensures { λ r. ⌜ r ≡ record { small = slices; answer = answer } ⌝ }
 {
-    tail_calls::Judged { small: s, answer }
+    tail_calls::Judged {
+        small: slices,
+        answer,
+    }
 }
 
 // Whether the possible block at addr is one of the function's or a function of its own.
@@ -61,21 +70,27 @@ pub fn check_tail_call(
     functions: &[u32],
     objects: &[u32],
     known: &[u64],
-    k: &mut [u64; places::KEYS],
-    v: &[u64],
+    keys: &mut [u64; places::KEYS],
+    values: &[u64],
     a: callback::around::Around,
-    s: lists::Small,
+    slices: function_slices::Small,
     addr: u64,
 ) -> tail_calls::Judged
     requires lends { ⌜ LendsAll (now sections) (now bytes) (now outcomes) (now functions) (now objects) (now known) a ⌝ }
-    requires fit { ⌜ Fit (now k) (now v) s × (s .fault ≡ 0) ⌝ }
-    ensures { λ r. ⌜ ((e : steps.Around) (o : Of (now (sections .entry)) (now (bytes .entry)) (now (functions .entry)) (now (objects .entry)) (now (known .entry)) a e) → o .lent .outcomes ≡ now (outcomes .entry) → Decides (rules.check-tail-call e addr (view (now (k .entry)) (now (v .entry)) s)) (now (k .entry)) (now (k .exit)) (now (v .entry)) r) ⌝ }
+    requires fit { ⌜ Fit (now keys) (now values) slices × (slices .fault ≡ 0) ⌝ }
+    ensures { λ r.
+        ⌜ ((e : steps.Around)
+        (o : Of (now (sections .entry)) (now (bytes .entry)) (now (functions .entry)) (now (objects .entry))
+        (now (known .entry)) a e) →
+        o .lent .outcomes ≡ now (outcomes .entry) →
+        Decides (rules.check-tail-call e addr (view (now (keys .entry)) (now (values .entry)) slices))
+        (now (keys .entry)) (now (keys .exit)) (now (values .entry)) r) ⌝ }
 {
-    let tested = tail_calls::check_before(bytes, known, k, v, s, a, addr);
+    let tested = tail_calls::check_before(bytes, known, keys, values, slices, a, addr);
     match tested {
-        tail_calls::Tested::Not => answered(s, tail_calls::TailCall::Not),
-        tail_calls::Tested::Is => answered(s, tail_calls::TailCall::Is),
-        tail_calls::Tested::Possible => answered(s, tail_calls::TailCall::Possible),
+        tail_calls::Tested::Not => answered(slices, tail_calls::TailCall::Not),
+        tail_calls::Tested::Is => answered(slices, tail_calls::TailCall::Is),
+        tail_calls::Tested::Possible => answered(slices, tail_calls::TailCall::Possible),
         tail_calls::Tested::Trial => trial(
             sections,
             bytes,
@@ -83,10 +98,10 @@ pub fn check_tail_call(
             functions,
             objects,
             known,
-            k,
-            v,
+            keys,
+            values,
             a,
-            s,
+            slices,
             addr,
         ),
     }

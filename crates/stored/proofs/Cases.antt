@@ -12,13 +12,13 @@ use borrow.Author.Tests.{le-leb, lt-leb}
 use Rattle.rules.specs.Choice.{if, if-true, if-false}
 use Rattle.rules.specs.Slices.{Slices}
 use Rattle.rules.specs.OneFunction.{numbers}
-use Rattle.lists.specs.View.{part, view, Fit}
-use Rattle.lists.specs.declared.Small.{Small}
+use Rattle.function_slices.specs.View.{part, view, Fit}
+use Rattle.function_slices.specs.declared.Small.{Small}
 use Rattle.stored.specs.Laid.{laid, Laid, Stored, flow, others}
 use Rattle.stored.proofs.Numbers.{numbers-parted, parted-count}
 use Rattle.stored.proofs.Laying.{size-after, laid-then}
-use Rattle.stored.proofs.Columns.{starts-fit, ends-fit, froms-fit, tos-fit, references-fit, addresses-fit, sizes-fit, possible-fit, both-long, flow-is, others-is, flow-long, others-long, blocks-columns, ways-columns, references-column, tables-columns, possible-column}
-use Rattle.lists.specs.Places.{BLOCKS, BRANCHES, REFERENCES, TABLES, POSSIBLE, AT-BLOCKS, AT-BRANCHES, AT-REFERENCES, AT-TABLES, AT-POSSIBLE, AT-SIZES}
+use Rattle.stored.proofs.Columns.{starts-fit, ends-fit, froms-fit, tos-fit, references-fit, addresses-fit, sizes-fit, possible-fit, both-long, flow-is, others-is, flow-long, others-long, blocks-columns, branches-columns, references-column, tables-columns, possible-column}
+use Rattle.function_slices.specs.Places.{BLOCKS, BRANCHES, REFERENCES, TABLES, POSSIBLE, AT-BLOCKS, AT-BRANCHES, AT-REFERENCES, AT-TABLES, AT-POSSIBLE, AT-SIZES}
 
 -- ---- two columns
 
@@ -47,21 +47,21 @@ module _ (k v : List ℕ) (s : Small) (f : Fit k v s) (out : List ℕ) (at : ℕ
       blocks-within : at + length (blocks-columns k v s f) ≤ length out
       blocks-within = omega (arith, blocks-long, flow-long k v s f)
 
-      pub ways-next : (s .ways ≤ length (part AT-BRANCHES BRANCHES k)) × (s .ways ≤ length (part AT-BRANCHES BRANCHES v)) × (next + s .ways + s .ways ≤ length m)
-      ways-next =
+      pub branches-next : (s .branches ≤ length (part AT-BRANCHES BRANCHES k)) × (s .branches ≤ length (part AT-BRANCHES BRANCHES v)) × (next + s .branches + s .branches ≤ length m)
+      branches-next =
           (froms-fit k v s f, tos-fit k v s f, omega (arith, h .past, blocks-long, flow-long k v s f, size-after out at (blocks-columns k v s f) blocks-within m next h))
 
-      pub flow-laid : (out′ : List ℕ) (past : ℕ) → Laid (ways-columns k v s f) m next out′ past → Laid (flow (view k v s)) out at out′ past
-      flow-laid out′ past g = rw (flow-is k v s f) (laid-then out at (blocks-columns k v s f) blocks-within m next h (ways-columns k v s f) out′ past g)
+      pub flow-laid : (out′ : List ℕ) (past : ℕ) → Laid (branches-columns k v s f) m next out′ past → Laid (flow (view k v s)) out at out′ past
+      flow-laid out′ past g = rw (flow-is k v s f) (laid-then out at (blocks-columns k v s f) blocks-within m next h (branches-columns k v s f) out′ past g)
 
   -- ---- references, jump tables, possible blocks
 
   module _ (room : at + length (others (view k v s)) ≤ length out) where
-    pub references-first : (s .references ≤ length (part AT-REFERENCES REFERENCES k)) × (at + s .references ≤ length out)
+    pub references-first : (s .«function_references» ≤ length (part AT-REFERENCES REFERENCES k)) × (at + s .«function_references» ≤ length out)
     references-first = (references-fit k v s f, omega (arith, others-long k v s f))
 
     module _ (m : List ℕ) (next : ℕ) (h : Laid (references-column k v s f) out at m next) where
-      references-long : length (references-column k v s f) ≡ s .references
+      references-long : length (references-column k v s f) ≡ s .«function_references»
       references-long = length-take-le _ _ (references-fit k v s f)
 
       references-within : at + length (references-column k v s f) ≤ length out
@@ -70,14 +70,14 @@ module _ (k v : List ℕ) (s : Small) (f : Fit k v s) (out : List ℕ) (at : ℕ
       size-m : length m ≡ length out
       size-m = size-after out at (references-column k v s f) references-within m next h
 
-      pub tables-next : (s .tables ≤ length (part AT-TABLES TABLES k)) × (s .tables ≤ length (part AT-SIZES TABLES v)) × (next + s .tables + s .tables ≤ length m)
+      pub tables-next : (s .«jump_table_references» ≤ length (part AT-TABLES TABLES k)) × (s .«jump_table_references» ≤ length (part AT-SIZES TABLES v)) × (next + s .«jump_table_references» + s .«jump_table_references» ≤ length m)
       tables-next = (addresses-fit k v s f, sizes-fit k v s f, omega (arith, h .past, references-long, others-long k v s f, size-m))
 
       module _ (o : List ℕ) (then : ℕ) (g : Laid (tables-columns k v s f) m next o then) where
         both : Laid (references-column k v s f ++ tables-columns k v s f) out at o then
         both = laid-then out at (references-column k v s f) references-within m next h (tables-columns k v s f) o then g
 
-        both-size : length (references-column k v s f ++ tables-columns k v s f) ≡ s .references + (s .tables + s .tables)
+        both-size : length (references-column k v s f ++ tables-columns k v s f) ≡ s .«function_references» + (s .«jump_table_references» + s .«jump_table_references»)
         both-size =
             length-append (references-column k v s f) (tables-columns k v s f)
             ∙ ap₂ (λ (i j : ℕ). i + j) references-long (both-long _ _ _ (addresses-fit k v s f) (sizes-fit k v s f))
@@ -85,7 +85,7 @@ module _ (k v : List ℕ) (s : Small) (f : Fit k v s) (out : List ℕ) (at : ℕ
         both-within : at + length (references-column k v s f ++ tables-columns k v s f) ≤ length out
         both-within = omega (arith, both-size, others-long k v s f)
 
-        pub possible-next : (s .possible ≤ length (part AT-POSSIBLE POSSIBLE k)) × (then + s .possible ≤ length o)
+        pub possible-next : (s .«possible_blocks» ≤ length (part AT-POSSIBLE POSSIBLE k)) × (then + s .«possible_blocks» ≤ length o)
         possible-next =
             (possible-fit k v s f, omega (arith, both .past, both-size, others-long k v s f, size-after out at (references-column k v s f ++ tables-columns k v s f) both-within o then both))
 
@@ -96,7 +96,7 @@ module _ (k v : List ℕ) (s : Small) (f : Fit k v s) (out : List ℕ) (at : ℕ
 -- ---- all of them
 
 module _ (k v : List ℕ) (s : Small) (f : Fit k v s) where
-  pub size-is : 2 * (s .blocks + s .ways + s .tables) + s .references + s .possible ≡ length (numbers (view k v s))
+  pub size-is : 2 * (s .blocks + s .branches + s .«jump_table_references») + s .«function_references» + s .«possible_blocks» ≡ length (numbers (view k v s))
   size-is = omega (arith, parted-count (view k v s), flow-long k v s f, others-long k v s f)
 
 module _ (x : Slices) (out : List ℕ) (at n : ℕ) (lent : at ≤ length out) (size : n ≡ length (numbers x)) where

@@ -9,32 +9,32 @@ use lib.Seq.{length-take-le}
 use borrow.Author.Tests.{eqb-true}
 use Rattle.rules.specs.Choice.{by-if}
 use Rattle.rules.specs.Blocks.{Block, block, startOf}
-use Rattle.rules.specs.Slices.{Ways, Table, addressOf}
+use Rattle.rules.specs.Slices.{Branches, Table, addressOf}
 use Rattle.rules.specs.OneFunction.{endOf, sizeOf, way-froms, way-tos}
 use Rattle.ordered.specs.Columns.{join}
 use Rattle.ordered.proofs.Columns.{rows-keys, rows-values}
-use Rattle.lists.specs.Groups.{Pair, pair, sourceOf, add-way, grouped, ways-rows}
-use Rattle.lists.specs.View.{part, table, view, Fit}
-use Rattle.lists.specs.declared.Small.{Small}
-use Rattle.lists.proofs.Parts.{part-length}
+use Rattle.function_slices.specs.Groups.{Pair, pair, sourceOf, add-way, grouped, branches-rows}
+use Rattle.function_slices.specs.View.{part, table, view, Fit}
+use Rattle.function_slices.specs.declared.Small.{Small}
+use Rattle.function_slices.proofs.Parts.{part-length}
 use Rattle.stored.specs.Laid.{flow, others}
-use Rattle.lists.specs.Places.{BLOCKS, BRANCHES, REFERENCES, TABLES, POSSIBLE, AT-BLOCKS, AT-BRANCHES, AT-REFERENCES, AT-TABLES, AT-POSSIBLE, AT-SIZES}
+use Rattle.function_slices.specs.Places.{BLOCKS, BRANCHES, REFERENCES, TABLES, POSSIBLE, AT-BLOCKS, AT-BRANCHES, AT-REFERENCES, AT-TABLES, AT-POSSIBLE, AT-SIZES}
 
 -- ---- ways on, grouped and told one by one again
 
 abbrev targetOf : Pair → ℕ
 targetOf p = p .target
 
-from-added : (p : Pair) (g : List Ways) → way-froms (add-way p g) ≡ p .source ∷ way-froms g
+from-added : (p : Pair) (g : List Branches) → way-froms (add-way p g) ≡ p .source ∷ way-froms g
 from-added p [] = refl
 from-added p (w ∷ g) =
-    by-if (λ (l : List Ways). way-froms l ≡ p .source ∷ way-froms (w ∷ g)) (eqb (p .source) (w .from))
+    by-if (λ (l : List Branches). way-froms l ≡ p .source ∷ way-froms (w ∷ g)) (eqb (p .source) (w .from))
     (λ e. ap (λ (f : ℕ). p .source ∷ (map (λ _. f) (w .targets) ++ way-froms g)) (eqb-true (p .source) (w .from) e))
     (λ _. refl)
 
-to-added : (p : Pair) (g : List Ways) → way-tos (add-way p g) ≡ p .target ∷ way-tos g
+to-added : (p : Pair) (g : List Branches) → way-tos (add-way p g) ≡ p .target ∷ way-tos g
 to-added p [] = refl
-to-added p (w ∷ g) = by-if (λ (l : List Ways). way-tos l ≡ p .target ∷ way-tos (w ∷ g)) (eqb (p .source) (w .from)) (λ _. refl) (λ _. refl)
+to-added p (w ∷ g) = by-if (λ (l : List Branches). way-tos l ≡ p .target ∷ way-tos (w ∷ g)) (eqb (p .source) (w .from)) (λ _. refl) (λ _. refl)
 
 froms-grouped : (l : List Pair) → way-froms (grouped l) ≡ map sourceOf l
 froms-grouped [] = refl
@@ -53,10 +53,10 @@ module _ (n : ℕ) (xs ys : List ℕ) (hx : n ≤ length xs) (hy : n ≤ length 
   pub ends-are : map endOf (join block (take n xs) (take n ys)) ≡ take n ys
   ends-are = rows-values block n xs ys hx hy endOf (λ x y. refl)
 
-  pub froms-are : way-froms (ways-rows n xs ys) ≡ take n xs
+  pub froms-are : way-froms (branches-rows n xs ys) ≡ take n xs
   froms-are = froms-grouped (join pair (take n xs) (take n ys)) ∙ rows-keys pair n xs ys hx hy sourceOf (λ x y. refl)
 
-  pub tos-are : way-tos (ways-rows n xs ys) ≡ take n ys
+  pub tos-are : way-tos (branches-rows n xs ys) ≡ take n ys
   tos-are = tos-grouped (join pair (take n xs) (take n ys)) ∙ rows-values pair n xs ys hx hy targetOf (λ x y. refl)
 
   pub addresses-are : map addressOf (join table (take n xs) (take n ys)) ≡ take n xs
@@ -77,56 +77,56 @@ module _ (k v : List ℕ) (s : Small) (f : Fit k v s) where
   pub ends-fit : s .blocks ≤ length (part AT-BLOCKS BLOCKS v)
   ends-fit = omega (arith, f .held .blocks-fit, part-length AT-BLOCKS BLOCKS v (omega (arith, f .values)))
 
-  pub froms-fit : s .ways ≤ length (part AT-BRANCHES BRANCHES k)
-  froms-fit = omega (arith, f .held .ways-fit, part-length AT-BRANCHES BRANCHES k (omega (arith, f .keys)))
+  pub froms-fit : s .branches ≤ length (part AT-BRANCHES BRANCHES k)
+  froms-fit = omega (arith, f .held .branches-fit, part-length AT-BRANCHES BRANCHES k (omega (arith, f .keys)))
 
-  pub tos-fit : s .ways ≤ length (part AT-BRANCHES BRANCHES v)
-  tos-fit = omega (arith, f .held .ways-fit, part-length AT-BRANCHES BRANCHES v (omega (arith, f .values)))
+  pub tos-fit : s .branches ≤ length (part AT-BRANCHES BRANCHES v)
+  tos-fit = omega (arith, f .held .branches-fit, part-length AT-BRANCHES BRANCHES v (omega (arith, f .values)))
 
-  pub references-fit : s .references ≤ length (part AT-REFERENCES REFERENCES k)
+  pub references-fit : s .«function_references» ≤ length (part AT-REFERENCES REFERENCES k)
   references-fit = omega (arith, f .held .references-fit, part-length AT-REFERENCES REFERENCES k (omega (arith, f .keys)))
 
-  pub addresses-fit : s .tables ≤ length (part AT-TABLES TABLES k)
+  pub addresses-fit : s .«jump_table_references» ≤ length (part AT-TABLES TABLES k)
   addresses-fit = omega (arith, f .held .tables-fit, part-length AT-TABLES TABLES k (omega (arith, f .keys)))
 
-  pub sizes-fit : s .tables ≤ length (part AT-SIZES TABLES v)
+  pub sizes-fit : s .«jump_table_references» ≤ length (part AT-SIZES TABLES v)
   sizes-fit = omega (arith, f .held .tables-fit, part-length AT-SIZES TABLES v (omega (arith, f .values)))
 
-  pub possible-fit : s .possible ≤ length (part AT-POSSIBLE POSSIBLE k)
+  pub possible-fit : s .«possible_blocks» ≤ length (part AT-POSSIBLE POSSIBLE k)
   possible-fit = omega (arith, f .held .possible-fit, part-length AT-POSSIBLE POSSIBLE k (omega (arith, f .keys)))
 
   -- the columns two by two
   abbrev pub blocks-columns : List ℕ
   blocks-columns = take (s .blocks) (part AT-BLOCKS BLOCKS k) ++ take (s .blocks) (part AT-BLOCKS BLOCKS v)
 
-  abbrev pub ways-columns : List ℕ
-  ways-columns = take (s .ways) (part AT-BRANCHES BRANCHES k) ++ take (s .ways) (part AT-BRANCHES BRANCHES v)
+  abbrev pub branches-columns : List ℕ
+  branches-columns = take (s .branches) (part AT-BRANCHES BRANCHES k) ++ take (s .branches) (part AT-BRANCHES BRANCHES v)
 
   abbrev pub references-column : List ℕ
-  references-column = take (s .references) (part AT-REFERENCES REFERENCES k)
+  references-column = take (s .«function_references») (part AT-REFERENCES REFERENCES k)
 
   abbrev pub tables-columns : List ℕ
-  tables-columns = take (s .tables) (part AT-TABLES TABLES k) ++ take (s .tables) (part AT-SIZES TABLES v)
+  tables-columns = take (s .«jump_table_references») (part AT-TABLES TABLES k) ++ take (s .«jump_table_references») (part AT-SIZES TABLES v)
 
   abbrev pub possible-column : List ℕ
-  possible-column = take (s .possible) (part AT-POSSIBLE POSSIBLE k)
+  possible-column = take (s .«possible_blocks») (part AT-POSSIBLE POSSIBLE k)
 
-  pub flow-is : flow (view k v s) ≡ blocks-columns ++ ways-columns
+  pub flow-is : flow (view k v s) ≡ blocks-columns ++ branches-columns
   unfolding view
   flow-is =
       rw (starts-are _ _ _ starts-fit ends-fit, ends-are _ _ _ starts-fit ends-fit, froms-are _ _ _ froms-fit tos-fit, tos-are _ _ _ froms-fit tos-fit)
-      (append-assoc blocks-columns (take (s .ways) (part AT-BRANCHES BRANCHES k)) (take (s .ways) (part AT-BRANCHES BRANCHES v)))
+      (append-assoc blocks-columns (take (s .branches) (part AT-BRANCHES BRANCHES k)) (take (s .branches) (part AT-BRANCHES BRANCHES v)))
 
   pub others-is : others (view k v s) ≡ references-column ++ tables-columns ++ possible-column
   unfolding view
   others-is =
       rw (addresses-are _ _ _ addresses-fit sizes-fit, sizes-are _ _ _ addresses-fit sizes-fit)
-      (ap (λ (l : List ℕ). l ++ possible-column) (append-assoc references-column (take (s .tables) (part AT-TABLES TABLES k)) (take (s .tables) (part AT-SIZES TABLES v))))
+      (ap (λ (l : List ℕ). l ++ possible-column) (append-assoc references-column (take (s .«jump_table_references») (part AT-TABLES TABLES k)) (take (s .«jump_table_references») (part AT-SIZES TABLES v))))
 
-  pub flow-long : length (flow (view k v s)) ≡ (s .blocks + s .blocks) + (s .ways + s .ways)
-  flow-long = ap length flow-is ∙ length-append blocks-columns ways-columns ∙ ap₂ (λ (i j : ℕ). i + j) (both-long _ _ _ starts-fit ends-fit) (both-long _ _ _ froms-fit tos-fit)
+  pub flow-long : length (flow (view k v s)) ≡ (s .blocks + s .blocks) + (s .branches + s .branches)
+  flow-long = ap length flow-is ∙ length-append blocks-columns branches-columns ∙ ap₂ (λ (i j : ℕ). i + j) (both-long _ _ _ starts-fit ends-fit) (both-long _ _ _ froms-fit tos-fit)
 
-  pub others-long : length (others (view k v s)) ≡ s .references + (s .tables + s .tables) + s .possible
+  pub others-long : length (others (view k v s)) ≡ s .«function_references» + (s .«jump_table_references» + s .«jump_table_references») + s .«possible_blocks»
   others-long =
       ap length others-is
       ∙ length-append (references-column ++ tables-columns) possible-column

@@ -5,17 +5,17 @@ use Prim.Native.Nat.{ℕ, _+_, _*_}
 use native.Mathlib.Omega.{arith}
 use lib.ListN.{length, length-append, length-map}
 use Rattle.rules.specs.Blocks.{Block, startOf}
-use Rattle.rules.specs.Slices.{Slices, Ways, Table, addressOf, count-ways}
+use Rattle.rules.specs.Slices.{Slices, Branches, Table, addressOf, count-branches}
 use Rattle.rules.specs.OneFunction.{endOf, sizeOf, way-froms, way-tos, numbers}
 use Rattle.rules.specs.Map.{Capacity, numbers-of}
 use Rattle.stored.specs.Laid.{flow, others}
 
-pub froms-count : (l : List Ways) → length (way-froms l) ≡ count-ways l
+pub froms-count : (l : List Branches) → length (way-froms l) ≡ count-branches l
 froms-count [] = refl
 froms-count (w ∷ l) =
     length-append (map (λ _. w .from) (w .targets)) (way-froms l) ∙ ap₂ (λ (i j : ℕ). i + j) (length-map (w .targets) (λ _. w .from)) (froms-count l)
 
-pub tos-count : (l : List Ways) → length (way-tos l) ≡ count-ways l
+pub tos-count : (l : List Branches) → length (way-tos l) ≡ count-branches l
 tos-count [] = refl
 tos-count (w ∷ l) = length-append (w .targets) (way-tos l) ∙ ap (λ (i : ℕ). length (w .targets) + i) (tos-count l)
 
@@ -23,19 +23,19 @@ tos-count (w ∷ l) = length-append (w .targets) (way-tos l) ∙ ap (λ (i : ℕ
 pub four : (a b c d : List ℕ) → length (a ++ b ++ c ++ d) ≡ length a + length b + length c + length d
 four a b c d = length-append (a ++ b ++ c) d ∙ ap (λ (i : ℕ). i + length d) (length-append (a ++ b) c ∙ ap (λ (i : ℕ). i + length c) (length-append a b))
 
-pub flow-count : (s : Slices) → length (flow s) ≡ 2 * length (s .blocks) + 2 * count-ways (s .ways)
+pub flow-count : (s : Slices) → length (flow s) ≡ 2 * length (s .blocks) + 2 * count-branches (s .branches)
 flow-count s =
-    let e : length (flow s) ≡ length (map startOf (s .blocks)) + length (map endOf (s .blocks)) + length (way-froms (s .ways)) + length (way-tos (s .ways)) =
-    four (map startOf (s .blocks)) (map endOf (s .blocks)) (way-froms (s .ways)) (way-tos (s .ways))
+    let e : length (flow s) ≡ length (map startOf (s .blocks)) + length (map endOf (s .blocks)) + length (way-froms (s .branches)) + length (way-tos (s .branches)) =
+    four (map startOf (s .blocks)) (map endOf (s .blocks)) (way-froms (s .branches)) (way-tos (s .branches))
     in
-    omega (arith, length-map (s .blocks) startOf, length-map (s .blocks) endOf, froms-count (s .ways), tos-count (s .ways))
+    omega (arith, length-map (s .blocks) startOf, length-map (s .blocks) endOf, froms-count (s .branches), tos-count (s .branches))
 
-pub others-count : (s : Slices) → length (others s) ≡ length (s .references) + 2 * length (s .tables) + length (s .possible)
+pub others-count : (s : Slices) → length (others s) ≡ length (s .function-references) + 2 * length (s .jump-table-references) + length (s .possible-blocks)
 others-count s =
-    let e : length (others s) ≡ length (s .references) + length (map addressOf (s .tables)) + length (map sizeOf (s .tables)) + length (s .possible) =
-    four (s .references) (map addressOf (s .tables)) (map sizeOf (s .tables)) (s .possible)
+    let e : length (others s) ≡ length (s .function-references) + length (map addressOf (s .jump-table-references)) + length (map sizeOf (s .jump-table-references)) + length (s .possible-blocks) =
+    four (s .function-references) (map addressOf (s .jump-table-references)) (map sizeOf (s .jump-table-references)) (s .possible-blocks)
     in
-    omega (arith, length-map (s .tables) addressOf, length-map (s .tables) sizeOf)
+    omega (arith, length-map (s .jump-table-references) addressOf, length-map (s .jump-table-references) sizeOf)
 
 -- blocks and ways on first, then the others
 parted : (a b c d e f g h : List ℕ) → a ++ b ++ c ++ d ++ e ++ f ++ g ++ h ≡ (a ++ b ++ c ++ d) ++ (e ++ f ++ g ++ h)
@@ -47,8 +47,8 @@ parted a b c d e f g h =
 pub numbers-parted : (s : Slices) → numbers s ≡ flow s ++ others s
 unfolding numbers
 numbers-parted s =
-    parted (map startOf (s .blocks)) (map endOf (s .blocks)) (way-froms (s .ways)) (way-tos (s .ways)) (s .references) (map addressOf (s .tables))
-    (map sizeOf (s .tables)) (s .possible)
+    parted (map startOf (s .blocks)) (map endOf (s .blocks)) (way-froms (s .branches)) (way-tos (s .branches)) (s .function-references) (map addressOf (s .jump-table-references))
+    (map sizeOf (s .jump-table-references)) (s .possible-blocks)
 
 pub parted-count : (s : Slices) → length (numbers s) ≡ length (flow s) + length (others s)
 parted-count s = ap length (numbers-parted s) ∙ length-append (flow s) (others s)

@@ -26,8 +26,8 @@ pub record Stored (l out : List ℕ) (at : ℕ) (out′ : List ℕ) (fits : Bool
 
 -- the columns of basic blocks and of ways on
 abbrev pub flow : Slices → List ℕ
-flow s = map startOf (s .blocks) ++ map endOf (s .blocks) ++ way-froms (s .ways) ++ way-tos (s .ways)
+flow s = map startOf (s .blocks) ++ map endOf (s .blocks) ++ way-froms (s .branches) ++ way-tos (s .branches)
 
 -- the columns of references, jump tables and possible blocks
 abbrev pub others : Slices → List ℕ
-others s = s .references ++ map addressOf (s .tables) ++ map sizeOf (s .tables) ++ s .possible
+others s = s .function-references ++ map addressOf (s .jump-table-references) ++ map sizeOf (s .jump-table-references) ++ s .possible-blocks

@@ -4,74 +4,108 @@ ghost use mathlib.Core.List.{_++_};
 ghost use Prim.Native.Nat.{_+_, _≤_};
 ghost use lib.ListN.{length, take, replicate};
 ghost use Rattle.rules.specs.OneFunction.{numbers};
-ghost use Rattle.lists.specs.View.{view, Fit};
+ghost use Rattle.function_slices.specs.View.{view, Fit};
 ghost use Rattle.stored.specs.Laid.{Laid, Stored, flow, others};
-use lists::places;
+use function_slices::places;
 
 // How many numbers the lists take: two for a block, a way on or a jump table, one for a reference or a possible block.
-pub fn size(k: &[u64], v: &[u64], s: lists::Small) -> usize
-    requires { ⌜ Fit (now k) (now v) s ⌝ }
-    ensures { λ r. ⌜ r ≡ length (numbers (view (now (k .entry)) (now (v .entry)) s)) ⌝ }
+pub fn size(keys: &[u64], values: &[u64], slices: function_slices::Small) -> usize
+    requires { ⌜ Fit (now keys) (now values) slices ⌝ }
+    ensures { λ r. ⌜ r ≡ length (numbers (view (now (keys .entry)) (now (values .entry)) slices)) ⌝ }
 {
-    let rows = s.blocks + s.ways + s.tables;
-    2 * rows + s.references + s.possible
+    let rows = slices.blocks + slices.branches + slices.jump_table_references;
+    2 * rows + slices.function_references + slices.possible_blocks
 }
 
-// The first n elements of a column, from at on; the place past them.
-fn put_column(out: &mut [u64], at: usize, xs: &[u64], n: usize) -> usize
-    requires { ⌜ (n ≤ length (now xs)) × (at + n ≤ length (now out)) ⌝ }
-    ensures { λ r. ⌜ Laid (take n (now (xs .entry))) (now (out .entry)) at (now (out .exit)) r ⌝ }
+// The first `count` elements of a column, from at on; the place past them.
+fn put_column(out: &mut [u64], at: usize, xs: &[u64], count: usize) -> usize
+    requires { ⌜ (count ≤ length (now xs)) × (at + count ≤ length (now out)) ⌝ }
+    ensures { λ r. ⌜ Laid (take count (now (xs .entry))) (now (out .entry)) at (now (out .exit)) r ⌝ }
 {
-    runs::copy_in(out, at, xs, n);
-    at + n
+    runs::copy_in(out, at, xs, count);
+    at + count
 }
 
 // Those of two columns, one after the other.
-fn put_columns(out: &mut [u64], at: usize, xs: &[u64], ys: &[u64], n: usize) -> usize
-    requires { ⌜ (n ≤ length (now xs)) × (n ≤ length (now ys)) × (at + n + n ≤ length (now out)) ⌝ }
-    ensures { λ r. ⌜ Laid (take n (now (xs .entry)) ++ take n (now (ys .entry))) (now (out .entry)) at (now (out .exit)) r ⌝ }
+fn put_columns(out: &mut [u64], at: usize, xs: &[u64], ys: &[u64], count: usize) -> usize
+    requires { ⌜ (count ≤ length (now xs)) × (count ≤ length (now ys)) × (at + count + count ≤ length (now out)) ⌝ }
+    ensures { λ r.
+        ⌜ Laid (take count (now (xs .entry)) ++ take count (now (ys .entry))) (now (out .entry)) at (now (out .exit))
+        r ⌝ }
 {
-    let b = put_column(out, at, xs, n);
-    put_column(out, b, ys, n)
+    let b = put_column(out, at, xs, count);
+    put_column(out, b, ys, count)
 }
 
 // The blocks and the ways on.
-fn put_flow(k: &[u64], v: &[u64], s: lists::Small, out: &mut [u64], at: usize) -> usize
-    requires { ⌜ Fit (now k) (now v) s × (at + length (flow (view (now k) (now v) s)) ≤ length (now out)) ⌝ }
-    ensures { λ r. ⌜ Laid (flow (view (now (k .entry)) (now (v .entry)) s)) (now (out .entry)) at (now (out .exit)) r ⌝ }
+fn put_flow(
+    keys: &[u64],
+    values: &[u64],
+    slices: function_slices::Small,
+    out: &mut [u64],
+    at: usize,
+) -> usize
+    requires { ⌜ Fit (now keys) (now values) slices ×
+        (at + length (flow (view (now keys) (now values) slices)) ≤ length (now out)) ⌝ }
+    ensures { λ r.
+        ⌜ Laid (flow (view (now (keys .entry)) (now (values .entry)) slices)) (now (out .entry)) at (now (out .exit))
+        r ⌝ }
 {
     let a: usize = places::AT_BLOCKS;
     let b: usize = places::AT_BRANCHES;
     let c: usize = places::AT_REFERENCES;
-    let p = put_columns(out, at, &k[a..b], &v[a..b], s.blocks);
-    put_columns(out, p, &k[b..c], &v[b..c], s.ways)
+    let p = put_columns(out, at, &keys[a..b], &values[a..b], slices.blocks);
+    put_columns(out, p, &keys[b..c], &values[b..c], slices.branches)
 }
 
 // The references, the jump tables and the possible blocks.
-fn put_others(k: &[u64], v: &[u64], s: lists::Small, out: &mut [u64], at: usize) -> usize
-    requires { ⌜ Fit (now k) (now v) s × (at + length (others (view (now k) (now v) s)) ≤ length (now out)) ⌝ }
-    ensures { λ r. ⌜ Laid (others (view (now (k .entry)) (now (v .entry)) s)) (now (out .entry)) at (now (out .exit)) r ⌝ }
+fn put_others(
+    keys: &[u64],
+    values: &[u64],
+    slices: function_slices::Small,
+    out: &mut [u64],
+    at: usize,
+) -> usize
+    requires { ⌜ Fit (now keys) (now values) slices ×
+        (at + length (others (view (now keys) (now values) slices)) ≤ length (now out)) ⌝ }
+    ensures { λ r.
+        ⌜ Laid (others (view (now (keys .entry)) (now (values .entry)) slices)) (now (out .entry)) at (now (out .exit))
+        r ⌝ }
 {
     let a: usize = places::AT_REFERENCES;
     let b: usize = places::AT_TABLES;
     let c: usize = places::AT_POSSIBLE;
     let d: usize = places::AT_PENDING;
-    let p = put_column(out, at, &k[a..b], s.references);
-    let q = put_columns(out, p, &k[b..c], &v[a..b], s.tables);
-    put_column(out, q, &k[c..d], s.possible)
+    let p = put_column(out, at, &keys[a..b], slices.function_references);
+    let q = put_columns(
+        out,
+        p,
+        &keys[b..c],
+        &values[a..b],
+        slices.jump_table_references,
+    );
+    put_column(out, q, &keys[c..d], slices.possible_blocks)
 }
 
 // All of them from at on, and whether they fit; where they do not, nothing is changed.
-pub fn store(k: &[u64], v: &[u64], s: lists::Small, out: &mut [u64], at: usize) -> bool
-    requires { ⌜ Fit (now k) (now v) s × (at ≤ length (now out)) ⌝ }
-    ensures { λ r. ⌜ Stored (numbers (view (now (k .entry)) (now (v .entry)) s)) (now (out .entry)) at (now (out .exit)) r ⌝ }
+pub fn store(
+    keys: &[u64],
+    values: &[u64],
+    slices: function_slices::Small,
+    out: &mut [u64],
+    at: usize,
+) -> bool
+    requires { ⌜ Fit (now keys) (now values) slices × (at ≤ length (now out)) ⌝ }
+    ensures { λ r.
+        ⌜ Stored (numbers (view (now (keys .entry)) (now (values .entry)) slices)) (now (out .entry)) at
+        (now (out .exit)) r ⌝ }
 {
-    let n = size(k, v, s);
+    let n = size(keys, values, slices);
     if out.len() - at < n {
         return false;
     }
-    let p = put_flow(k, v, s, out, at);
-    put_others(k, v, s, out, p);
+    let p = put_flow(keys, values, slices, out, at);
+    put_others(keys, values, slices, out, p);
     true
 }
 

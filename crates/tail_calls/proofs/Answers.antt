@@ -11,20 +11,20 @@ use borrow.Author.Tests.{lt-ltb, le-ltb, le-leb, lt-leb, leb-true, ltb-true, ltb
 use Rattle.rules.specs.Choice.{if, by-if, if-true, if-false, Answer, fault, any, filter}
 use Rattle.rules.specs.Ordered.{self, rank, Rising, Above}
 use Rattle.rules.specs.Blocks.{first-start, last-end}
-use Rattle.rules.specs.Slices.{Slices, with-possible}
+use Rattle.rules.specs.Slices.{Slices, with-possible-blocks}
 use Rattle.rules.specs.Step as steps
 use Rattle.rules.specs.TailCall as rules
 use Rattle.rules.proofs.Ordered.{rank-le}
 use Rattle.runs.specs.Runs.{Fits, spliced}
-use Rattle.lists.specs.View.{view, part, Fit, Are}
-use Rattle.lists.specs.declared.Small.{Small}
-use Rattle.lists.proofs.Parts.{Lent, over, lent, part-length}
-use Rattle.lists.proofs.Changes.{counted, possible-changed}
+use Rattle.function_slices.specs.View.{view, part, Fit, Are}
+use Rattle.function_slices.specs.declared.Small.{Small}
+use Rattle.function_slices.proofs.Parts.{Lent, over, lent, part-length}
+use Rattle.function_slices.proofs.Changes.{counted, possible-changed}
 use Rattle.tail_calls.specs.Judged.{inside, Dropped, answer-of, Judges, trial-answer, Decides}
 use Rattle.tail_calls.specs.declared.TailCall.{TailCall}
 use Rattle.tail_calls.specs.declared.TailCall.the-variants.{Not, Is, Possible}
 use Rattle.tail_calls.specs.declared.Judged.{Judged}
-use Rattle.lists.specs.Places.{POSSIBLE, AT-POSSIBLE, AT-PENDING}
+use Rattle.function_slices.specs.Places.{POSSIBLE, AT-POSSIBLE, AT-PENDING}
 
 -- where a test holds of none, all are kept
 none-gone : (p : ℕ → Bool) (l : List ℕ) → any p l ≡ false → filter (λ x. not (p x)) l ≡ l
@@ -187,44 +187,44 @@ module _ (k v : List ℕ) (s : Small) (f : Fit k v s) (z : s .fault ≡ 0) (e : 
   from-there first addr k′ v′ r q h j =
       record { is = if-false (rw (← q) (le-ltb first addr h)) _ _ ∙ j .is; fit = j .fit; fine = j .fine; pending = j .pending }
 
-  module _ (first end : ℕ) (is-first : first ≡ first-start (t .blocks)) (is-end : end ≡ last-end (t .blocks)) (ps : List ℕ) (n : ℕ) (dropped : Dropped (part AT-POSSIBLE POSSIBLE k) ps (s .possible) first end n) where
-    d : Dropped (part AT-POSSIBLE POSSIBLE k) ps (s .possible) (first-start (t .blocks)) (last-end (t .blocks)) n
+  module _ (first end : ℕ) (is-first : first ≡ first-start (t .blocks)) (is-end : end ≡ last-end (t .blocks)) (ps : List ℕ) (n : ℕ) (dropped : Dropped (part AT-POSSIBLE POSSIBLE k) ps (s .«possible_blocks») first end n) where
+    d : Dropped (part AT-POSSIBLE POSSIBLE k) ps (s .«possible_blocks») (first-start (t .blocks)) (last-end (t .blocks)) n
     d = rw (is-first, is-end) at dropped
 
     lie : Lent AT-POSSIBLE POSSIBLE k ps (over AT-POSSIBLE POSSIBLE k ps)
     lie = lent AT-POSSIBLE POSSIBLE k ps (omega (arith, f .keys)) (d .size ∙ part-length AT-POSSIBLE POSSIBLE k (omega (arith, f .keys)))
 
-    are : Are (with-possible (view k v s) (take n ps)) (over AT-POSSIBLE POSSIBLE k ps) v (counted s (s .blocks) (s .ways) (s .references) (s .tables) n)
+    are : Are (with-possible-blocks (view k v s) (take n ps)) (over AT-POSSIBLE POSSIBLE k ps) v (counted s (s .blocks) (s .branches) (s .«function_references») (s .«jump_table_references») n)
     are =
         possible-changed k v s f z ps (over AT-POSSIBLE POSSIBLE k ps) n lie (omega (arith, d .few, f .held .possible-fit))
-        (rw (d .live) (kept-rising (λ p. not (inside (first-start (t .blocks)) (last-end (t .blocks)) p)) (take (s .possible) (part AT-POSSIBLE POSSIBLE k)) (f .held .possible-rise)))
+        (rw (d .live) (kept-rising (λ p. not (inside (first-start (t .blocks)) (last-end (t .blocks)) p)) (take (s .«possible_blocks») (part AT-POSSIBLE POSSIBLE k)) (f .held .possible-rise)))
 
-    possible-is : view k v s .possible ≡ take (s .possible) (part AT-POSSIBLE POSSIBLE k)
+    possible-is : view k v s .possible-blocks ≡ take (s .«possible_blocks») (part AT-POSSIBLE POSSIBLE k)
     unfolding view
     possible-is = refl
 
-    others : any (rules.is-other e t) (view k v s .possible) ≡ ltb n (s .possible)
+    others : any (rules.is-other e t) (view k v s .possible-blocks) ≡ ltb n (s .«possible_blocks»)
     others = ap (any (rules.is-other e t)) possible-is ∙ sym (d .some)
 
-    kept-others : filter (λ p. not (rules.is-other e t p)) (view k v s .possible) ≡ take n ps
+    kept-others : filter (λ p. not (rules.is-other e t p)) (view k v s .possible-blocks) ≡ take n ps
     kept-others = ap (filter (λ p. not (rules.is-other e t p))) possible-is ∙ sym (d .live)
 
-    pub others-gone : n < s .possible → Judges (rules.judge-others e (view k v s) t) k (over AT-POSSIBLE POSSIBLE k ps) v (record { small = counted s (s .blocks) (s .ways) (s .references) (s .tables) n; answer = Not })
+    pub others-gone : n < s .«possible_blocks» → Judges (rules.judge-others e (view k v s) t) k (over AT-POSSIBLE POSSIBLE k ps) v (record { small = counted s (s .blocks) (s .branches) (s .«function_references») (s .«jump_table_references») n; answer = Not })
     unfolding rules.judge-others
     others-gone h =
         record {
-          is = if-true (others ∙ lt-ltb n (s .possible) h) _ _ ∙ ap (λ (l : List ℕ). rules.verdict rules.is-not (with-possible (view k v s) l)) kept-others ∙ ap (λ (x : Slices). rules.verdict rules.is-not x) (sym (are .same));
+          is = if-true (others ∙ lt-ltb n (s .«possible_blocks») h) _ _ ∙ ap (λ (l : List ℕ). rules.verdict rules.is-not (with-possible-blocks (view k v s) l)) kept-others ∙ ap (λ (x : Slices). rules.verdict rules.is-not x) (sym (are .same));
           fit = are .fit;
           fine = are .fine;
           pending = lie .past AT-PENDING (omega arith);
         }
 
-    pub no-others : (a : TailCall) → s .possible ≤ n → answer-of a ≡ rules.own-word e t → Judges (rules.judge-others e (view k v s) t) k (over AT-POSSIBLE POSSIBLE k ps) v (record { small = counted s (s .blocks) (s .ways) (s .references) (s .tables) n; answer = a })
+    pub no-others : (a : TailCall) → s .«possible_blocks» ≤ n → answer-of a ≡ rules.own-word e t → Judges (rules.judge-others e (view k v s) t) k (over AT-POSSIBLE POSSIBLE k ps) v (record { small = counted s (s .blocks) (s .branches) (s .«function_references») (s .«jump_table_references») n; answer = a })
     unfolding rules.judge-others
     no-others a h q =
-        let none : any (rules.is-other e t) (view k v s .possible) ≡ false = others ∙ le-ltb n (s .possible) h in
-        let all : view k v s .possible ≡ take n ps = sym (none-gone (rules.is-other e t) (view k v s .possible) none) ∙ kept-others in
-        let same : view k v s ≡ with-possible (view k v s) (take n ps) = ap (λ (l : List ℕ). with-possible (view k v s) l) all in
+        let none : any (rules.is-other e t) (view k v s .possible-blocks) ≡ false = others ∙ le-ltb n (s .«possible_blocks») h in
+        let all : view k v s .possible-blocks ≡ take n ps = sym (none-gone (rules.is-other e t) (view k v s .possible-blocks) none) ∙ kept-others in
+        let same : view k v s ≡ with-possible-blocks (view k v s) (take n ps) = ap (λ (l : List ℕ). with-possible-blocks (view k v s) l) all in
         record {
           is = if-false none _ _ ∙ ap (λ (x : rules.TailCall). rules.verdict x (view k v s)) (sym q) ∙ ap (λ (x : Slices). rules.verdict (answer-of a) x) (same ∙ sym (are .same));
           fit = are .fit;

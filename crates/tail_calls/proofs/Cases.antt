@@ -23,8 +23,8 @@ use Rattle.obj.specs.Lent.{Lent, given, image}
 use Rattle.obj.specs.Sections.{IsCode}
 use Rattle.obj.specs.declared.sections.Code.{Code}
 use Rattle.known.specs.Table.{Knows}
-use Rattle.lists.specs.View.{view}
-use Rattle.lists.specs.declared.Small.{Small}
+use Rattle.function_slices.specs.View.{view}
+use Rattle.function_slices.specs.declared.Small.{Small}
 use Rattle.prologues.specs.Code.{CodeWords}
 use Rattle.prologues.proofs.Scan.{from-offset}
 use Rattle.callback.specs.Around.{Alike}
@@ -93,7 +93,7 @@ no-entries low high es h = none-of (λ (x : Entry). leb low (x .entry) && leb (x
 
 module _ (known k v : List ℕ) (s : Small) (a : Around) (addr : ℕ) (e : steps.Around) (alike : Alike a e) (knows : Knows (a .known) known (e .entries)) where
   abbrev Between : ℕ → Bool
-  Between low = any (λ r. leb low r && leb r addr) (view k v s .references) || any-between low addr (e .entries)
+  Between low = any (λ r. leb low r && leb r addr) (view k v s .function-references) || any-between low addr (e .entries)
 
   between-is : Between (a .start + 4) ≡ rules.is-referred e addr (view k v s)
   unfolding rules.is-referred
@@ -101,11 +101,11 @@ module _ (known k v : List ℕ) (s : Small) (a : Around) (addr : ℕ) (e : steps
 
   pub none-between : addr < a .start + 4 → false ≡ rules.is-referred e addr (view k v s)
   none-between h =
-      let p : any (λ r. leb (a .start + 4) r && leb r addr) (view k v s .references) ≡ false = none-of (λ r. leb (a .start + 4) r && leb r addr) (view k v s .references) (λ x. not-between (a .start + 4) addr x h) in
+      let p : any (λ r. leb (a .start + 4) r && leb r addr) (view k v s .function-references) ≡ false = none-of (λ r. leb (a .start + 4) r && leb r addr) (view k v s .function-references) (λ x. not-between (a .start + 4) addr x h) in
       let q : any-between (a .start + 4) addr (e .entries) ≡ false = no-entries (a .start + 4) addr (e .entries) h in
       sym (rw (p, q) refl) ∙ between-is
 
-  module _ (b : Bool) (is-b : b ≡ any (λ r. leb (a .start + 4) r && leb r addr) (view k v s .references)) where
+  module _ (b : Bool) (is-b : b ≡ any (λ r. leb (a .start + 4) r && leb r addr) (view k v s .function-references)) where
     pub reference-between : b ≡ true → true ≡ rules.is-referred e addr (view k v s)
     reference-between t = ap (λ (x : Bool). x || any-between (a .start + 4) addr (e .entries)) (sym t ∙ is-b) ∙ between-is
 

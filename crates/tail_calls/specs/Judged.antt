@@ -8,12 +8,12 @@ use lib.ListN.{length, take, drop}
 use Rattle.rules.specs.Choice.{if, Answer, ok, fault, any, filter}
 use Rattle.rules.specs.Analyze.{Analyzed}
 use Rattle.rules.specs.TailCall as rules
-use Rattle.lists.specs.View.{view, Fit}
-use Rattle.lists.specs.declared.Small.{Small}
+use Rattle.function_slices.specs.View.{view, Fit}
+use Rattle.function_slices.specs.declared.Small.{Small}
 use Rattle.tail_calls.specs.declared.TailCall.{TailCall}
 use Rattle.tail_calls.specs.declared.TailCall.the-variants.{Not, Is, Possible}
 use Rattle.tail_calls.specs.declared.Judged.{Judged}
-use Rattle.lists.specs.Places.{AT-PENDING}
+use Rattle.function_slices.specs.Places.{AT-PENDING}
 
 -- p lies from first + 4 to just below end
 abbrev pub inside : ℕ → ℕ → ℕ → Bool

@@ -11,11 +11,11 @@ ghost use Rattle.rules.specs.Step as steps;
 ghost use Rattle.rules.specs.TailCall as rules;
 ghost use Rattle.obj.specs.Sections.{InBytes};
 ghost use Rattle.known.specs.Table.{Kept, Knows};
-ghost use Rattle.lists.specs.View.{view, Fit};
+ghost use Rattle.function_slices.specs.View.{view, Fit};
 ghost use Rattle.callback.specs.Around.{Alike};
 ghost use Rattle.tail_calls.specs.Asked.{Asked, tested};
 ghost use Rattle.tail_calls.specs.Judged.{Dropped, answer-of, Judges, trial-answer, Decides};
-use lists::places;
+use function_slices::places;
 
 // What the tests before the trial walk say: not a tail call, one, perhaps one, or that the trial decides.
 pub enum Tested {
@@ -26,14 +26,23 @@ pub enum Tested {
 }
 
 // Whether a block starts at addr, it lies inside the function, or a prologue is recorded.
-pub fn is_own(k: &[u64], v: &[u64], s: lists::Small, a: callback::around::Around, addr: u64) -> bool
-    requires { ⌜ Fit (now k) (now v) s ⌝ }
-    ensures { λ r. ⌜ ((e : steps.Around) → Alike a e → r ≡ rules.is-own e addr (view (now (k .entry)) (now (v .entry)) s)) ⌝ }
+pub fn is_own(
+    keys: &[u64],
+    values: &[u64],
+    slices: function_slices::Small,
+    a: callback::around::Around,
+    addr: u64,
+) -> bool
+    requires { ⌜ Fit (now keys) (now values) slices ⌝ }
+    ensures { λ r.
+        ⌜ ((e : steps.Around) →
+        Alike a e →
+        r ≡ rules.is-own e addr (view (now (keys .entry)) (now (values .entry)) slices)) ⌝ }
 {
-    if lists::has_start(k, v, s, addr) {
+    if function_slices::has_start(keys, values, slices, addr) {
         return true;
     }
-    ((a.start <= addr) & (addr < a.end)) | (s.prologue != 0)
+    ((a.start <= addr) & (addr < a.end)) | (slices.prologue != 0)
 }
 
 // The 32-bit address of the word before an address; 0 where there is none.
@@ -50,7 +59,8 @@ fn address_before(addr: u64) -> u32
 // Whether addr lies below the start or in another section, or the word before it is zero.
 pub fn is_separate(bytes: &[u8], a: callback::around::Around, addr: u64) -> bool
     requires { ⌜ InBytes (now bytes) (a .code) ⌝ }
-    ensures { λ r. ⌜ ((n : List ℕ) (e : steps.Around) → Asked (now (bytes .entry)) n a e → r ≡ rules.is-separate e addr) ⌝ }
+    ensures { λ r.
+        ⌜ ((n : List ℕ) (e : steps.Around) → Asked (now (bytes .entry)) n a e → r ≡ rules.is-separate e addr) ⌝ }
 {
     if addr < a.start {
         return true;
@@ -65,15 +75,19 @@ pub fn is_separate(bytes: &[u8], a: callback::around::Around, addr: u64) -> bool
 // Whether a function from start + 4 up to addr is referred to or known.
 pub fn is_referred(
     known: &[u64],
-    k: &[u64],
-    v: &[u64],
-    s: lists::Small,
+    keys: &[u64],
+    values: &[u64],
+    slices: function_slices::Small,
     a: callback::around::Around,
     addr: u64,
 ) -> bool
     requires kept { ⌜ Kept (a .known) (now known) ⌝ }
-    requires fit { ⌜ Fit (now k) (now v) s ⌝ }
-    ensures { λ r. ⌜ ((e : steps.Around) → Alike a e → Knows (a .known) (now (known .entry)) (e .entries) → r ≡ rules.is-referred e addr (view (now (k .entry)) (now (v .entry)) s)) ⌝ }
+    requires fit { ⌜ Fit (now keys) (now values) slices ⌝ }
+    ensures { λ r.
+        ⌜ ((e : steps.Around) →
+        Alike a e →
+        Knows (a .known) (now (known .entry)) (e .entries) →
+        r ≡ rules.is-referred e addr (view (now (keys .entry)) (now (values .entry)) slices)) ⌝ }
 {
     if addr < a.start {
         return false;
@@ -82,19 +96,19 @@ pub fn is_referred(
         return false;
     }
     let low = a.start + 4;
-    if lists::any_reference(k, v, s, low, addr) {
+    if function_slices::any_function_reference(keys, values, slices, low, addr) {
         return true;
     }
     known::any_between(known, a.known, low, addr)
 }
 
-// Whether one of the n words from an offset on begins a prologue.
-fn prologue_among(words: &[u8], from: usize, n: u64) -> bool
+// Whether one of the `number` words from an offset on begins a prologue.
+fn prologue_among(words: &[u8], from: usize, number: u64) -> bool
     requires { ⌜ (from < 0x1_0000_0000) × (length (now words) ≤ 0x1_0000_0000) ⌝ }
-    ensures { λ r. ⌜ r ≡ prologue-among n (words-in (drop from (now (words .entry)))) ⌝ }
+    ensures { λ r. ⌜ r ≡ prologue-among number (words-in (drop from (now (words .entry)))) ⌝ }
 {
     let mut at = from;
-    let mut left = n;
+    let mut left = number;
     while 0 < left {
         if words.len() < at + 4 {
             return false;
@@ -111,7 +125,8 @@ fn prologue_among(words: &[u8], from: usize, n: u64) -> bool
 // Whether a prologue begins from the start up to addr.
 pub fn prologue_before(bytes: &[u8], a: callback::around::Around, addr: u64) -> bool
     requires { ⌜ InBytes (now bytes) (a .code) ⌝ }
-    ensures { λ r. ⌜ ((n : List ℕ) (e : steps.Around) → Asked (now (bytes .entry)) n a e → r ≡ rules.prologue-before e addr) ⌝ }
+    ensures { λ r.
+        ⌜ ((n : List ℕ) (e : steps.Around) → Asked (now (bytes .entry)) n a e → r ≡ rules.prologue-before e addr) ⌝ }
 {
     let code = a.code;
     let first = code.offset;
@@ -128,17 +143,21 @@ pub fn prologue_before(bytes: &[u8], a: callback::around::Around, addr: u64) -> 
 pub fn check_before(
     bytes: &[u8],
     known: &[u64],
-    k: &[u64],
-    v: &[u64],
-    s: lists::Small,
+    keys: &[u64],
+    values: &[u64],
+    slices: function_slices::Small,
     a: callback::around::Around,
     addr: u64,
 ) -> Tested
     requires lent { ⌜ InBytes (now bytes) (a .code) × Kept (a .known) (now known) ⌝ }
-    requires fit { ⌜ Fit (now k) (now v) s ⌝ }
-    ensures { λ r. ⌜ ((e : steps.Around) → Asked (now (bytes .entry)) (now (known .entry)) a e → rules.check-tail-call e addr (view (now (k .entry)) (now (v .entry)) s) ≡ tested e addr (view (now (k .entry)) (now (v .entry)) s) r) ⌝ }
+    requires fit { ⌜ Fit (now keys) (now values) slices ⌝ }
+    ensures { λ r.
+        ⌜ ((e : steps.Around) →
+        Asked (now (bytes .entry)) (now (known .entry)) a e →
+        rules.check-tail-call e addr (view (now (keys .entry)) (now (values .entry)) slices) ≡ tested e addr
+        (view (now (keys .entry)) (now (values .entry)) slices) r) ⌝ }
 {
-    if is_own(k, v, s, a, addr) {
+    if is_own(keys, values, slices, a, addr) {
         return Tested::Not;
     }
     if is_separate(bytes, a, addr) {
@@ -147,7 +166,7 @@ pub fn check_before(
     if a.end == 0 {
         return Tested::Possible;
     }
-    if is_referred(known, k, v, s, a, addr) {
+    if is_referred(known, keys, values, slices, a, addr) {
         return Tested::Is;
     }
     if prologue_before(bytes, a, addr) {
@@ -165,35 +184,35 @@ pub enum TailCall {
 
 // The answer, and the function's lists: other possible blocks may be gone from them.
 pub struct Judged {
-    pub small: lists::Small,
+    pub small: function_slices::Small,
     pub answer: TailCall,
 }
 
-// Of the first n elements, which ascend, those from first + 4 to just below end are taken out; how many are left.
-fn drop_others(xs: &mut [u64], n: usize, first: u64, end: u64) -> usize
-    requires { ⌜ (n ≤ length (now xs)) × Rising self (take n (now xs)) ⌝ }
-    ensures { λ r. ⌜ Dropped (now (xs .entry)) (now (xs .exit)) n first end r ⌝ }
+// Of the first `count` elements, which ascend, those from first + 4 to just below end are taken out; how many are left.
+fn drop_others(xs: &mut [u64], count: usize, first: u64, end: u64) -> usize
+    requires { ⌜ (count ≤ length (now xs)) × Rising self (take count (now xs)) ⌝ }
+    ensures { λ r. ⌜ Dropped (now (xs .entry)) (now (xs .exit)) count first end r ⌝ }
 {
     if end <= first {
-        return n;
+        return count;
     }
     if end - first <= 4 {
-        return n;
+        return count;
     }
-    let at = ordered::rank_in(xs, n, first + 4);
-    let until = ordered::rank_in(xs, n, end);
+    let at = ordered::rank_in(xs, count, first + 4);
+    let until = ordered::rank_in(xs, count, end);
     if until <= at {
-        return n;
+        return count;
     }
-    runs::splice_fill(xs, n, at, until, 0, 0)
+    runs::splice_fill(xs, count, at, until, 0, 0)
 }
 
 // A prologue or a load of r1 in the trial: a function.
-fn own_word(t: lists::Small) -> TailCall
-    ensures { λ r. ⌜ ((e : steps.Around) (k v : List ℕ) → answer-of r ≡ rules.own-word e (view k v t)) ⌝ }
+fn own_word(trial: function_slices::Small) -> TailCall
+    ensures { λ r. ⌜ ((e : steps.Around) (k v : List ℕ) → answer-of r ≡ rules.own-word e (view k v trial)) ⌝ }
 {
-    if t.prologue == 0 {
-        if t.load {
+    if trial.prologue == 0 {
+        if trial.load {
             return TailCall::Is;
         }
         return TailCall::Possible;
@@ -203,99 +222,114 @@ fn own_word(t: lists::Small) -> TailCall
 
 // Another possible block in the trial's blocks, behind its first word: it goes with this one.
 fn judge_others(
-    k: &mut [u64],
-    v: &[u64],
-    s: lists::Small,
+    keys: &mut [u64],
+    values: &[u64],
+    slices: function_slices::Small,
     tk: &[u64],
     tv: &[u64],
-    t: lists::Small,
+    walked: function_slices::Small,
 ) -> Judged
-    requires own { ⌜ Fit (now k) (now v) s × (s .fault ≡ 0) ⌝ }
-    requires trial { ⌜ Fit (now tk) (now tv) t ⌝ }
-    ensures { λ r. ⌜ ((e : steps.Around) → Judges (rules.judge-others e (view (now (k .entry)) (now (v .entry)) s) (view (now (tk .entry)) (now (tv .entry)) t)) (now (k .entry)) (now (k .exit)) (now (v .entry)) r) ⌝ }
+    requires own { ⌜ Fit (now keys) (now values) slices × (slices .fault ≡ 0) ⌝ }
+    requires trial { ⌜ Fit (now tk) (now tv) walked ⌝ }
+    ensures { λ r.
+        ⌜ ((e : steps.Around) →
+        Judges
+        (rules.judge-others e (view (now (keys .entry)) (now (values .entry)) slices)
+        (view (now (tk .entry)) (now (tv .entry)) walked))
+        (now (keys .entry)) (now (keys .exit)) (now (values .entry)) r) ⌝ }
 {
-    let first = lists::first_start(tk, tv, t);
-    let end = lists::last_end(tk, tv, t);
+    let first = function_slices::first_start(tk, tv, walked);
+    let end = function_slices::last_end(tk, tv, walked);
     let a: usize = places::AT_POSSIBLE;
     let b: usize = places::AT_PENDING;
-    let n = drop_others(&mut k[a..b], s.possible, first, end);
-    let mut r = s;
-    r.possible = n;
-    if n < s.possible {
+    let n = drop_others(&mut keys[a..b], slices.possible_blocks, first, end);
+    let mut r = slices;
+    r.possible_blocks = n;
+    if n < slices.possible_blocks {
         return Judged {
             small: r,
             answer: TailCall::Not,
         };
     }
-    let answer = own_word(t);
+    let answer = own_word(walked);
     Judged { small: r, answer }
 }
 
 // What a trial walk from addr that met a function makes of the possible block there. One that reached back before addr: not a tail call.
 pub fn judge_trial(
-    k: &mut [u64; places::KEYS],
-    v: &[u64],
-    s: lists::Small,
+    keys: &mut [u64; places::KEYS],
+    values: &[u64],
+    slices: function_slices::Small,
     tk: &[u64],
     tv: &[u64],
-    t: lists::Small,
+    walked: function_slices::Small,
     addr: u64,
 ) -> Judged
-    requires own { ⌜ Fit (now k) (now v) s × (s .fault ≡ 0) ⌝ }
-    requires trial { ⌜ Fit (now tk) (now tv) t ⌝ }
-    ensures { λ r. ⌜ ((e : steps.Around) → Judges (rules.judge-trial e addr (view (now (k .entry)) (now (v .entry)) s) (view (now (tk .entry)) (now (tv .entry)) t)) (now (k .entry)) (now (k .exit)) (now (v .entry)) r) ⌝ }
+    requires own { ⌜ Fit (now keys) (now values) slices × (slices .fault ≡ 0) ⌝ }
+    requires trial { ⌜ Fit (now tk) (now tv) walked ⌝ }
+    ensures { λ r.
+        ⌜ ((e : steps.Around) →
+        Judges
+        (rules.judge-trial e addr (view (now (keys .entry)) (now (values .entry)) slices)
+        (view (now (tk .entry)) (now (tv .entry)) walked))
+        (now (keys .entry)) (now (keys .exit)) (now (values .entry)) r) ⌝ }
 {
-    if lists::first_start(tk, tv, t) < addr {
+    if function_slices::first_start(tk, tv, walked) < addr {
         return Judged {
-            small: s,
+            small: slices,
             answer: TailCall::Not,
         };
     }
-    judge_others(k, v, s, tk, tv, t)
+    judge_others(keys, values, slices, tk, tv, walked)
 }
 
 // Faults of the trial that end the whole run; at the others nothing is known.
-fn ends_run(n: u32) -> bool
-    ensures { λ r. ⌜ r ≡ rules.ends-run n ⌝ }
+fn ends_run(number: u32) -> bool
+    ensures { λ r. ⌜ r ≡ rules.ends-run number ⌝ }
 {
-    (n == 4) | (n == 10) | (n == 16)
+    (number == 4) | (number == 10) | (number == 16)
 }
 
 // What a trial walk from addr makes of the possible block there. The trial's lists have its fault, 0 where there is none, and tell
 // nothing where there is one; `found` says whether it met a function.
 pub fn judge(
-    k: &mut [u64; places::KEYS],
-    v: &[u64],
-    s: lists::Small,
+    keys: &mut [u64; places::KEYS],
+    values: &[u64],
+    slices: function_slices::Small,
     tk: &[u64; places::KEYS],
     tv: &[u64; places::VALUES],
-    t: lists::Small,
+    walked: function_slices::Small,
     found: bool,
     addr: u64,
 ) -> Judged
-    requires own { ⌜ Fit (now k) (now v) s × (s .fault ≡ 0) ⌝ }
-    requires trial { ⌜ (t .fault ≡ 0 → Fit (now tk) (now tv) t) ⌝ }
-    ensures { λ r. ⌜ ((e : steps.Around) → Decides (rules.judge e addr (view (now (k .entry)) (now (v .entry)) s) (trial-answer (now (tk .entry)) (now (tv .entry)) t found)) (now (k .entry)) (now (k .exit)) (now (v .entry)) r) ⌝ }
+    requires own { ⌜ Fit (now keys) (now values) slices × (slices .fault ≡ 0) ⌝ }
+    requires trial { ⌜ (walked .fault ≡ 0 → Fit (now tk) (now tv) walked) ⌝ }
+    ensures { λ r.
+        ⌜ ((e : steps.Around) →
+        Decides
+        (rules.judge e addr (view (now (keys .entry)) (now (values .entry)) slices)
+        (trial-answer (now (tk .entry)) (now (tv .entry)) walked found))
+        (now (keys .entry)) (now (keys .exit)) (now (values .entry)) r) ⌝ }
 {
-    if t.fault == 0 {
+    if walked.fault == 0 {
         if found {
-            return judge_trial(k, v, s, tk, tv, t, addr);
+            return judge_trial(keys, values, slices, tk, tv, walked, addr);
         }
         return Judged {
-            small: s,
+            small: slices,
             answer: TailCall::Is,
         };
     }
-    if ends_run(t.fault) {
-        let mut r = s;
-        r.fault = t.fault;
+    if ends_run(walked.fault) {
+        let mut r = slices;
+        r.fault = walked.fault;
         return Judged {
             small: r,
             answer: TailCall::Possible,
         };
     }
     Judged {
-        small: s,
+        small: slices,
         answer: TailCall::Possible,
     }
 }

@@ -33,7 +33,11 @@ fn read_line(
     entry: &mut [u32; 2],
 ) -> Reading
     requires { ⌜ Fit r (now sections) (now bytes) (now outcomes) (now functions) (now objects) (now skips) (now entry) ⌝ }
-    ensures { λ q. ⌜ LinePut (now (line .entry)) r q (now (sections .entry)) (now (sections .exit)) (now (bytes .entry)) (now (bytes .exit)) (now (outcomes .entry)) (now (outcomes .exit)) (now (functions .entry)) (now (functions .exit)) (now (objects .entry)) (now (objects .exit)) (now (skips .entry)) (now (skips .exit)) (now (entry .entry)) (now (entry .exit)) ⌝ }
+    ensures { λ q.
+        ⌜ LinePut (now (line .entry)) r q (now (sections .entry)) (now (sections .exit)) (now (bytes .entry))
+        (now (bytes .exit)) (now (outcomes .entry)) (now (outcomes .exit)) (now (functions .entry))
+        (now (functions .exit)) (now (objects .entry)) (now (objects .exit)) (now (skips .entry)) (now (skips .exit))
+        (now (entry .entry)) (now (entry .exit)) ⌝ }
 {
     let f = frames::line::read_frame(line);
     reading::put::put_frame(
@@ -60,7 +64,11 @@ pub fn read_image(
     skips: &mut [u32; 130],
     entry: &mut [u32; 2],
 ) -> Reading
-    ensures { λ r. ⌜ TextRead (now (text .entry)) r (now (sections .entry)) (now (sections .exit)) (now (bytes .entry)) (now (bytes .exit)) (now (outcomes .entry)) (now (outcomes .exit)) (now (functions .entry)) (now (functions .exit)) (now (objects .entry)) (now (objects .exit)) (now (skips .entry)) (now (skips .exit)) (now (entry .entry)) (now (entry .exit)) ⌝ }
+    ensures { λ r.
+        ⌜ TextRead (now (text .entry)) r (now (sections .entry)) (now (sections .exit)) (now (bytes .entry))
+        (now (bytes .exit)) (now (outcomes .entry)) (now (outcomes .exit)) (now (functions .entry))
+        (now (functions .exit)) (now (objects .entry)) (now (objects .exit)) (now (skips .entry)) (now (skips .exit))
+        (now (entry .entry)) (now (entry .exit)) ⌝ }
 {
     let mut r = Reading {
         ok: true,

@@ -13,17 +13,17 @@ use Rattle.rules.specs.Slices.{Slices, add-block-start, set-block}
 use Rattle.rules.specs.Blocks.{is-new}
 use Rattle.rules.specs.Step as rules
 use Rattle.rules.proofs.Faults.{Number, Met, limited-met, add-block-start-met, set-block-met}
-use Rattle.lists.specs.View as lists
-use Rattle.lists.specs.View.{view, Fit, IsMarked, unless-fault}
-use Rattle.lists.specs.declared.Small.{Small}
-use Rattle.lists.specs.declared.Marked.{Marked}
+use Rattle.function_slices.specs.View as lists
+use Rattle.function_slices.specs.View.{view, Fit, IsMarked, unless-fault}
+use Rattle.function_slices.specs.declared.Small.{Small}
+use Rattle.function_slices.specs.declared.Marked.{Marked}
 use Rattle.executor.specs.Pending as pendings
 use Rattle.executor.specs.Pending.{pending, IsPushed}
 use Rattle.executor.specs.declared.Pushed.{Pushed}
 use Rattle.executor.proofs.Pending.{pending-same, lists-same, lists-fit}
 use Rattle.walk.specs.State.{walk-of, with-small, faulting, place-of, Fits, Going, answer, Is, Listed}
 use Rattle.walk.specs.declared.Walk.{Walk}
-use Rattle.lists.specs.Places.{AT-PENDING}
+use Rattle.function_slices.specs.Places.{AT-PENDING}
 
 module _ (vis : ℕ → Bool) (k v : List ℕ) (w : Walk) where
   pub answer-ok : w .small .fault ≡ 0 → answer vis k v w ≡ ok (walk-of vis k v w)
@@ -75,7 +75,7 @@ pub listed-fault : (k v : List ℕ) (s : Small) {n : ℕ} → s .fault ≡ n →
 listed-fault k v s e z = record { is = ap fault (sym e) ∙ sym (if-false (ne-eqb _ _ (λ q. z (sym e ∙ q))) _ _); fit = λ q. absurd (z (sym e ∙ q)) }
 
 -- lists with the same counts
-pub refit : (k v : List ℕ) (s r : Small) → r .blocks ≡ s .blocks → r .ways ≡ s .ways → r .references ≡ s .references → r .tables ≡ s .tables → r .possible ≡ s .possible → Fit k v s → Fit k v r
+pub refit : (k v : List ℕ) (s r : Small) → r .blocks ≡ s .blocks → r .branches ≡ s .branches → r .«function_references» ≡ s .«function_references» → r .«jump_table_references» ≡ s .«jump_table_references» → r .«possible_blocks» ≡ s .«possible_blocks» → Fit k v s → Fit k v r
 refit k v s r b w c t p f =
     record {
       keys = f .keys;
@@ -83,12 +83,12 @@ refit k v s r b w c t p f =
       held =
           record {
             blocks-fit = rw b (f .held .blocks-fit);
-            ways-fit = rw w (f .held .ways-fit);
+            branches-fit = rw w (f .held .branches-fit);
             references-fit = rw c (f .held .references-fit);
             tables-fit = rw t (f .held .tables-fit);
             possible-fit = rw p (f .held .possible-fit);
             blocks-rise = rw b (f .held .blocks-rise);
-            ways-rise = rw w (f .held .ways-rise);
+            branches-rise = rw w (f .held .branches-rise);
             references-rise = rw c (f .held .references-rise);
             tables-rise = rw t (f .held .tables-rise);
             possible-rise = rw p (f .held .possible-rise);

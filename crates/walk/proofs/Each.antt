@@ -1,4 +1,4 @@
--- A change for each element of a list, up to the first fault: `mark-and-push-all` and `add-all-possible`.
+-- A change for each element of a list, up to the first fault: `mark-and-push-all` and `add-all-possible-blocks`.
 use mathlib.Core.Path.{_≡_, refl, sym, ap, _∙_}
 use mathlib.Core.List.{List, [], _∷_}
 use mathlib.Core.Bool.{Bool, false}
@@ -8,7 +8,7 @@ use native.Mathlib.Omega.{arith}
 use lib.ListN.{take, drop, length, getD, drop-of-length-le}
 use lib.Seq.{drop-cons, getD-take, length-take-le}
 use Rattle.rules.specs.Choice.{Answer, ok, fault, _>>=_}
-use Rattle.rules.specs.Slices.{Slices, add-possible, add-all-possible}
+use Rattle.rules.specs.Slices.{Slices, add-possible-block, add-all-possible-blocks}
 use Rattle.rules.specs.Step as rules
 use Rattle.walk.specs.State.{walk-of, Fits, Going, Is}
 use Rattle.walk.specs.declared.Walk.{Walk}
@@ -64,11 +64,11 @@ marks-each (x ∷ l) w = by (rules.mark-and-push x w) (marks-each l)
     by (ok v) f = f v
     by (fault n) f = refl
 
-pub adds-each : (l : List ℕ) (w : rules.Walk) → each (λ x. rules.on-slices (add-possible x)) l w ≡ rules.on-slices (add-all-possible l) w
+pub adds-each : (l : List ℕ) (w : rules.Walk) → each (λ x. rules.on-slices (add-possible-block x)) l w ≡ rules.on-slices (add-all-possible-blocks l) w
 unfolding each rules.on-slices _>>=_
 adds-each [] w = refl
-adds-each (x ∷ l) w = by (add-possible x (w .slices)) (λ s. adds-each l (rules.with-slices w s))
+adds-each (x ∷ l) w = by (add-possible-block x (w .slices)) (λ s. adds-each l (rules.with-slices w s))
   where
-    by : (a : Answer Slices) → ((s : Slices) → each (λ x. rules.on-slices (add-possible x)) l (rules.with-slices w s) ≡ rules.on-slices (add-all-possible l) (rules.with-slices w s)) → ((a >>= λ s. ok (rules.with-slices w s)) >>= each (λ x. rules.on-slices (add-possible x)) l) ≡ ((a >>= λ t. add-all-possible l t) >>= λ s. ok (rules.with-slices w s))
+    by : (a : Answer Slices) → ((s : Slices) → each (λ x. rules.on-slices (add-possible-block x)) l (rules.with-slices w s) ≡ rules.on-slices (add-all-possible-blocks l) (rules.with-slices w s)) → ((a >>= λ s. ok (rules.with-slices w s)) >>= each (λ x. rules.on-slices (add-possible-block x)) l) ≡ ((a >>= λ t. add-all-possible-blocks l t) >>= λ s. ok (rules.with-slices w s))
     by (ok s) f = f s
     by (fault n) f = refl

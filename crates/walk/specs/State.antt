@@ -7,11 +7,11 @@ use lib.Dec.{eqb}
 use Rattle.rules.specs.Choice.{if, Answer, ok, fault}
 use Rattle.rules.specs.Slices.{Slices}
 use Rattle.rules.specs.Step as rules
-use Rattle.lists.specs.View.{view, Fit}
-use Rattle.lists.specs.declared.Small.{Small}
+use Rattle.function_slices.specs.View.{view, Fit}
+use Rattle.function_slices.specs.declared.Small.{Small}
 use Rattle.executor.specs.Pending.{pending}
 use Rattle.walk.specs.declared.Walk.{Walk}
-use Rattle.lists.specs.Places.{PENDING}
+use Rattle.function_slices.specs.Places.{PENDING}
 
 -- an address with a section's number of at most 15: four more is one too
 abbrev pub Low : ℕ → Type 0
@@ -32,7 +32,7 @@ with-place w p k b = record { small = w .small; pending = w .pending; fresh = w 
 -- the counts with a fault, 0 for none
 abbrev pub faulting : Small → ℕ → Small
 faulting s n =
-    record { blocks = s .blocks; ways = s .ways; references = s .references; tables = s .tables; possible = s .possible; prologue = s .prologue; epilogue = s .epilogue; conditional = s .conditional; rfi = s .rfi; load = s .load; finalized = s .finalized; fault = n }
+    record { blocks = s .blocks; branches = s .branches; «function_references» = s .«function_references»; «jump_table_references» = s .«jump_table_references»; «possible_blocks» = s .«possible_blocks»; prologue = s .prologue; epilogue = s .epilogue; conditional = s .conditional; rfi = s .rfi; load = s .load; finalized = s .finalized; fault = n }
 
 -- the state, where these words were visited
 unfoldable pub walk-of : (ℕ → Bool) → List ℕ → List ℕ → Walk → rules.Walk

@@ -19,7 +19,7 @@ pub const NOWHERE: u32 = 2;
 // What is no list: the counts, how many addresses are pending, whether this pass visited a new word, and the place. Before a word,
 // `at` is its address and `block` the start of its block.
 pub struct Walk {
-    pub small: lists::Small,
+    pub small: function_slices::Small,
     pub pending: usize,
     pub fresh: bool,
     pub place: u32,
@@ -28,11 +28,11 @@ pub struct Walk {
 }
 
 // The walk with other counts.
-pub fn with_small(w: Walk, s: lists::Small) -> Walk
-    ensures { λ r. ⌜ r ≡ with-small w s ⌝ }
+pub fn with_small(w: Walk, slices: function_slices::Small) -> Walk
+    ensures { λ r. ⌜ r ≡ with-small w slices ⌝ }
 {
     let mut r = w;
-    r.small = s;
+    r.small = slices;
     r
 }
 
@@ -57,68 +57,105 @@ pub fn met_nothing(w: Walk) -> Walk
 }
 
 // The walk met a fault.
-pub fn with_fault(w: Walk, n: u32) -> Walk
-    ensures { λ r. ⌜ r ≡ with-small w (faulting (w .small) n) ⌝ }
+pub fn with_fault(w: Walk, number: u32) -> Walk
+    ensures { λ r. ⌜ r ≡ with-small w (faulting (w .small) number) ⌝ }
 {
     let mut s = w.small;
-    s.fault = n;
+    s.fault = number;
     with_small(w, s)
 }
 
 // Sets the ways on from a word to the first m targets.
-pub fn set_ways(k: &mut [u64], v: &mut [u64], w: Walk, from: u64, targets: &[u64], m: usize) -> Walk
-    requires going { ⌜ Going (now k) (now v) w ⌝ }
+pub fn set_branches(
+    keys: &mut [u64],
+    values: &mut [u64],
+    w: Walk,
+    from: u64,
+    targets: &[u64],
+    m: usize,
+) -> Walk
+    requires going { ⌜ Going (now keys) (now values) w ⌝ }
     requires some { ⌜ (0 < m) × (m ≤ length (now targets)) ⌝ }
-    ensures { λ r. ⌜ ((vis : ℕ → Bool) → Is (rules.on-slices (lists.set-ways from (take m (now (targets .entry)))) (walk-of vis (now (k .entry)) (now (v .entry)) w)) vis (now (k .exit)) (now (v .exit)) r) ⌝ }
+    ensures { λ r.
+        ⌜ ((vis : ℕ → Bool) →
+        Is
+        (rules.on-slices (lists.set-branches from (take m (now (targets .entry))))
+        (walk-of vis (now (keys .entry)) (now (values .entry)) w))
+        vis (now (keys .exit)) (now (values .exit)) r) ⌝ }
 {
-    let s = lists::set_ways(k, v, w.small, from, targets, m);
+    let s = function_slices::set_branches(keys, values, w.small, from, targets, m);
     with_small(w, s)
 }
 
 // Sets the one way on from a word.
-pub fn set_way(k: &mut [u64], v: &mut [u64], w: Walk, from: u64, to: u64) -> Walk
-    requires { ⌜ Going (now k) (now v) w ⌝ }
-    ensures { λ r. ⌜ ((vis : ℕ → Bool) → Is (rules.on-slices (lists.set-ways from (to ∷ [])) (walk-of vis (now (k .entry)) (now (v .entry)) w)) vis (now (k .exit)) (now (v .exit)) r) ⌝ }
+pub fn set_way(keys: &mut [u64], values: &mut [u64], w: Walk, from: u64, to: u64) -> Walk
+    requires { ⌜ Going (now keys) (now values) w ⌝ }
+    ensures { λ r.
+        ⌜ ((vis : ℕ → Bool) →
+        Is
+        (rules.on-slices (lists.set-branches from (to ∷ [])) (walk-of vis (now (keys .entry)) (now (values .entry)) w))
+        vis (now (keys .exit)) (now (values .exit)) r) ⌝ }
 {
     let targets: [u64; 1] = [to];
-    let s = lists::set_ways(k, v, w.small, from, &targets, 1);
+    let s = function_slices::set_branches(keys, values, w.small, from, &targets, 1);
     with_small(w, s)
 }
 
 // Adds a function that is referred to.
-pub fn add_reference(k: &mut [u64], v: &mut [u64], w: Walk, addr: u64) -> Walk
-    requires { ⌜ Going (now k) (now v) w ⌝ }
-    ensures { λ r. ⌜ ((vis : ℕ → Bool) → Is (rules.on-slices (lists.add-reference addr) (walk-of vis (now (k .entry)) (now (v .entry)) w)) vis (now (k .exit)) (now (v .exit)) r) ⌝ }
+pub fn add_function_reference(keys: &mut [u64], values: &mut [u64], w: Walk, addr: u64) -> Walk
+    requires { ⌜ Going (now keys) (now values) w ⌝ }
+    ensures { λ r.
+        ⌜ ((vis : ℕ → Bool) →
+        Is
+        (rules.on-slices (lists.add-function-reference addr) (walk-of vis (now (keys .entry)) (now (values .entry)) w))
+        vis (now (keys .exit)) (now (values .exit)) r) ⌝ }
 {
-    let s = lists::add_reference(k, v, w.small, addr);
+    let s = function_slices::add_function_reference(keys, values, w.small, addr);
     with_small(w, s)
 }
 
 // Adds a block that may be the function's.
-pub fn add_possible(k: &mut [u64], v: &mut [u64], w: Walk, addr: u64) -> Walk
-    requires { ⌜ Going (now k) (now v) w ⌝ }
-    ensures { λ r. ⌜ ((vis : ℕ → Bool) → Is (rules.on-slices (lists.add-possible addr) (walk-of vis (now (k .entry)) (now (v .entry)) w)) vis (now (k .exit)) (now (v .exit)) r) ⌝ }
+pub fn add_possible_block(keys: &mut [u64], values: &mut [u64], w: Walk, addr: u64) -> Walk
+    requires { ⌜ Going (now keys) (now values) w ⌝ }
+    ensures { λ r.
+        ⌜ ((vis : ℕ → Bool) →
+        Is (rules.on-slices (lists.add-possible-block addr) (walk-of vis (now (keys .entry)) (now (values .entry)) w))
+        vis (now (keys .exit)) (now (values .exit)) r) ⌝ }
 {
-    let s = lists::add_possible(k, v, w.small, addr);
+    let s = function_slices::add_possible_block(keys, values, w.small, addr);
     with_small(w, s)
 }
 
 // Sets the size of a jump table.
-pub fn set_table(k: &mut [u64], v: &mut [u64], w: Walk, addr: u64, size: u64) -> Walk
-    requires { ⌜ Going (now k) (now v) w ⌝ }
-    ensures { λ r. ⌜ ((vis : ℕ → Bool) → Is (rules.on-slices (lists.set-table addr size) (walk-of vis (now (k .entry)) (now (v .entry)) w)) vis (now (k .exit)) (now (v .exit)) r) ⌝ }
+pub fn set_jump_table_reference(
+    keys: &mut [u64],
+    values: &mut [u64],
+    w: Walk,
+    addr: u64,
+    size: u64,
+) -> Walk
+    requires { ⌜ Going (now keys) (now values) w ⌝ }
+    ensures { λ r.
+        ⌜ ((vis : ℕ → Bool) →
+        Is
+        (rules.on-slices (lists.set-jump-table-reference addr size)
+        (walk-of vis (now (keys .entry)) (now (values .entry)) w))
+        vis (now (keys .exit)) (now (values .exit)) r) ⌝ }
 {
-    let s = lists::set_table(k, v, w.small, addr, size);
+    let s = function_slices::set_jump_table_reference(keys, values, w.small, addr, size);
     with_small(w, s)
 }
 
 // The block ends behind the word at addr.
-pub fn end_block(k: &mut [u64], v: &mut [u64], w: Walk, addr: u64, block: u64) -> Walk
-    requires going { ⌜ Going (now k) (now v) w ⌝ }
+pub fn end_block(keys: &mut [u64], values: &mut [u64], w: Walk, addr: u64, block: u64) -> Walk
+    requires going { ⌜ Going (now keys) (now values) w ⌝ }
     requires low { ⌜ Low addr ⌝ }
-    ensures { λ r. ⌜ ((vis : ℕ → Bool) → Is (rules.end-block addr block (walk-of vis (now (k .entry)) (now (v .entry)) w)) vis (now (k .exit)) (now (v .exit)) r) ⌝ }
+    ensures { λ r.
+        ⌜ ((vis : ℕ → Bool) →
+        Is (rules.end-block addr block (walk-of vis (now (keys .entry)) (now (values .entry)) w)) vis (now (keys .exit))
+        (now (values .exit)) r) ⌝ }
 {
-    let s = lists::set_block(k, v, w.small, block, addr + 4);
+    let s = function_slices::set_block(keys, values, w.small, block, addr + 4);
     let mut r = w;
     r.small = s;
     r.place = IDLE;
@@ -126,11 +163,14 @@ pub fn end_block(k: &mut [u64], v: &mut [u64], w: Walk, addr: u64, block: u64) -
 }
 
 // An address is to be walked.
-pub fn push(k: &mut [u64], v: &[u64], w: Walk, addr: u64) -> Walk
-    requires { ⌜ Going (now k) (now v) w ⌝ }
-    ensures { λ r. ⌜ ((vis : ℕ → Bool) → Is (rules.push addr (walk-of vis (now (k .entry)) (now (v .entry)) w)) vis (now (k .exit)) (now (v .entry)) r) ⌝ }
+pub fn push(keys: &mut [u64], values: &[u64], w: Walk, addr: u64) -> Walk
+    requires { ⌜ Going (now keys) (now values) w ⌝ }
+    ensures { λ r.
+        ⌜ ((vis : ℕ → Bool) →
+        Is (rules.push addr (walk-of vis (now (keys .entry)) (now (values .entry)) w)) vis (now (keys .exit))
+        (now (values .entry)) r) ⌝ }
 {
-    let p = executor::push(k, w.pending, addr);
+    let p = executor::push(keys, w.pending, addr);
     let mut s = w.small;
     s.fault = p.fault;
     let mut r = w;
@@ -140,28 +180,42 @@ pub fn push(k: &mut [u64], v: &[u64], w: Walk, addr: u64) -> Walk
 }
 
 // A new block start is to be walked.
-pub fn mark_and_push(k: &mut [u64], v: &mut [u64], w: Walk, addr: u64) -> Walk
-    requires { ⌜ Going (now k) (now v) w ⌝ }
-    ensures { λ r. ⌜ ((vis : ℕ → Bool) → Is (rules.mark-and-push addr (walk-of vis (now (k .entry)) (now (v .entry)) w)) vis (now (k .exit)) (now (v .exit)) r) ⌝ }
+pub fn mark_and_push(keys: &mut [u64], values: &mut [u64], w: Walk, addr: u64) -> Walk
+    requires { ⌜ Going (now keys) (now values) w ⌝ }
+    ensures { λ r.
+        ⌜ ((vis : ℕ → Bool) →
+        Is (rules.mark-and-push addr (walk-of vis (now (keys .entry)) (now (values .entry)) w)) vis (now (keys .exit))
+        (now (values .exit)) r) ⌝ }
 {
-    let m = lists::add_block_start(k, v, w.small, addr);
+    let m = function_slices::add_block_start(keys, values, w.small, addr);
     let t = with_small(w, m.small);
     if m.new {
-        return push(k, v, t, addr);
+        return push(keys, values, t, addr);
     }
     t
 }
 
 // Each of the first m targets is a block start.
-pub fn mark_and_push_all(k: &mut [u64], v: &mut [u64], w: Walk, targets: &[u64], m: usize) -> Walk
-    requires going { ⌜ Going (now k) (now v) w ⌝ }
+pub fn mark_and_push_all(
+    keys: &mut [u64],
+    values: &mut [u64],
+    w: Walk,
+    targets: &[u64],
+    m: usize,
+) -> Walk
+    requires going { ⌜ Going (now keys) (now values) w ⌝ }
     requires inside { ⌜ m ≤ length (now targets) ⌝ }
-    ensures { λ r. ⌜ ((vis : ℕ → Bool) → Is (rules.mark-and-push-all (take m (now (targets .entry))) (walk-of vis (now (k .entry)) (now (v .entry)) w)) vis (now (k .exit)) (now (v .exit)) r) ⌝ }
+    ensures { λ r.
+        ⌜ ((vis : ℕ → Bool) →
+        Is
+        (rules.mark-and-push-all (take m (now (targets .entry)))
+        (walk-of vis (now (keys .entry)) (now (values .entry)) w))
+        vis (now (keys .exit)) (now (values .exit)) r) ⌝ }
 {
     let mut r = w;
     let mut i: usize = 0;
     while i < m {
-        r = mark_and_push(k, v, r, targets[i]);
+        r = mark_and_push(keys, values, r, targets[i]);
         if r.small.fault != 0 {
             return r;
         }
@@ -171,15 +225,26 @@ pub fn mark_and_push_all(k: &mut [u64], v: &mut [u64], w: Walk, targets: &[u64],
 }
 
 // Each of the first m targets may be a block of the function.
-pub fn add_all_possible(k: &mut [u64], v: &mut [u64], w: Walk, targets: &[u64], m: usize) -> Walk
-    requires going { ⌜ Going (now k) (now v) w ⌝ }
+pub fn add_all_possible_blocks(
+    keys: &mut [u64],
+    values: &mut [u64],
+    w: Walk,
+    targets: &[u64],
+    m: usize,
+) -> Walk
+    requires going { ⌜ Going (now keys) (now values) w ⌝ }
     requires inside { ⌜ m ≤ length (now targets) ⌝ }
-    ensures { λ r. ⌜ ((vis : ℕ → Bool) → Is (rules.on-slices (lists.add-all-possible (take m (now (targets .entry)))) (walk-of vis (now (k .entry)) (now (v .entry)) w)) vis (now (k .exit)) (now (v .exit)) r) ⌝ }
+    ensures { λ r.
+        ⌜ ((vis : ℕ → Bool) →
+        Is
+        (rules.on-slices (lists.add-all-possible-blocks (take m (now (targets .entry))))
+        (walk-of vis (now (keys .entry)) (now (values .entry)) w))
+        vis (now (keys .exit)) (now (values .exit)) r) ⌝ }
 {
     let mut r = w;
     let mut i: usize = 0;
     while i < m {
-        r = add_possible(k, v, r, targets[i]);
+        r = add_possible_block(keys, values, r, targets[i]);
         if r.small.fault != 0 {
             return r;
         }

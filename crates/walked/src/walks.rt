@@ -25,12 +25,12 @@ fn prefill(list: &mut [u64; 4096])
 
 // ---- lines
 
-fn print_key(k: u64) {
-    if k == 0 {
+fn print_key(key: u64) {
+    if key == 0 {
         io::write_all(1, b" -");
     } else {
         io::write_all(1, b" ");
-        io::print_hex(1, k, 9);
+        io::print_hex(1, key, 9);
     }
 }
 
@@ -42,12 +42,12 @@ fn print_digit(b: bool) {
     }
 }
 
-fn print_number(n: u32) {
+fn print_number(number: u32) {
     io::write_all(1, b"R ");
-    if n < 10 {
+    if number < 10 {
         io::write_all(1, b"0");
     }
-    io::print_decimal(1, obj::sections::wide(n));
+    io::print_decimal(1, obj::sections::wide(number));
     io::write_all(1, b"\n");
 }
 
@@ -72,37 +72,37 @@ fn element(list: &[u64], i: usize) -> u64 {
     0
 }
 
-// A column of n elements that begins at an index; the place past it.
-fn print_column(name: &[u8], list: &[u64], at: usize, n: usize) -> usize {
+// A column of `count` elements that begins at an index; the place past it.
+fn print_column(name: &[u8], list: &[u64], at: usize, count: usize) -> usize {
     let mut i: usize = 0;
-    while i < n {
+    while i < count {
         io::write_all(1, name);
         print_key(element(list, std::num::wrapping_add_usize(at, i)));
         io::write_all(1, b"\n");
         i += 1;
     }
-    std::num::wrapping_add_usize(at, n)
+    std::num::wrapping_add_usize(at, count)
 }
 
 // Two such columns, one behind the other; the place past them.
-fn print_columns(name: &[u8], list: &[u64], at: usize, n: usize) -> usize {
-    let second = std::num::wrapping_add_usize(at, n);
+fn print_columns(name: &[u8], list: &[u64], at: usize, count: usize) -> usize {
+    let second = std::num::wrapping_add_usize(at, count);
     let mut i: usize = 0;
-    while i < n {
+    while i < count {
         io::write_all(1, name);
         print_key(element(list, std::num::wrapping_add_usize(at, i)));
         print_key(element(list, std::num::wrapping_add_usize(second, i)));
         io::write_all(1, b"\n");
         i += 1;
     }
-    std::num::wrapping_add_usize(second, n)
+    std::num::wrapping_add_usize(second, count)
 }
 
 // The same for jump tables, whose sizes have eight digits.
-fn print_tables(list: &[u64], at: usize, n: usize) -> usize {
-    let second = std::num::wrapping_add_usize(at, n);
+fn print_tables(list: &[u64], at: usize, count: usize) -> usize {
+    let second = std::num::wrapping_add_usize(at, count);
     let mut i: usize = 0;
-    while i < n {
+    while i < count {
         io::write_all(1, b"J");
         print_key(element(list, std::num::wrapping_add_usize(at, i)));
         io::write_all(1, b" ");
@@ -110,16 +110,16 @@ fn print_tables(list: &[u64], at: usize, n: usize) -> usize {
         io::write_all(1, b"\n");
         i += 1;
     }
-    std::num::wrapping_add_usize(second, n)
+    std::num::wrapping_add_usize(second, count)
 }
 
 // All lists; the place past them.
 fn print_lists(list: &[u64], r: Function) -> usize {
-    let ways = print_columns(b"B", list, 0, r.blocks);
-    let references = print_columns(b"C", list, ways, r.ways);
-    let tables = print_column(b"X", list, references, r.references);
-    let possible = print_tables(list, tables, r.tables);
-    print_column(b"P", list, possible, r.possible)
+    let branches = print_columns(b"B", list, 0, r.blocks);
+    let references = print_columns(b"C", list, branches, r.branches);
+    let tables = print_column(b"X", list, references, r.function_references);
+    let possible = print_tables(list, tables, r.jump_table_references);
+    print_column(b"P", list, possible, r.possible_blocks)
 }
 
 // ---- the lent list
@@ -165,7 +165,11 @@ fn print_rest(number: u32, list: &[u64], past: usize) {
 
 // Whether a refusal says nothing else.
 fn is_bare(r: Function) -> bool {
-    let counts = r.blocks | r.ways | r.references | r.tables | r.possible;
+    let counts = r.blocks
+        | r.branches
+        | r.function_references
+        | r.jump_table_references
+        | r.possible_blocks;
     let places = r.prologue | r.epilogue;
     let flags = r.found | r.conditional | r.rfi | r.load;
     counts == 0 && places == 0 && !flags
@@ -204,10 +208,10 @@ fn join(halves: &[u32], keys: &mut [u64; 4096]) -> usize
 }
 
 // The length that is lent of the list.
-fn room_of(n: u32) -> usize
+fn room_of(number: u32) -> usize
     ensures { λ r. ⌜ r ≤ 4096 ⌝ }
 {
-    let r = n as usize;
+    let r = number as usize;
     if r < MOST {
         return r;
     }
@@ -313,11 +317,11 @@ fn make_walks(
 }
 
 // Takes the numbers apart into the lists of an image, of which list i lies from `from[i]` up to `to[i]`.
-pub fn print_parts(numbers: &[u32], bytes: &[u8], n: usize, from: [usize; 9], to: [usize; 9]) {
-    if n <= bytes.len() {
+pub fn print_parts(numbers: &[u32], bytes: &[u8], count: usize, from: [usize; 9], to: [usize; 9]) {
+    if count <= bytes.len() {
         make_walks(
             lines::part(numbers, from[0], to[0]),
-            &bytes[0..n],
+            &bytes[0..count],
             lines::part(numbers, from[1], to[1]),
             lines::part(numbers, from[2], to[2]),
             lines::part(numbers, from[3], to[3]),

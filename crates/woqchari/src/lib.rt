@@ -18,8 +18,22 @@ pub extern "C" fn woqchari_detect_functions(
     entries: &mut usize,
     numbers: &mut usize,
 ) -> u32
-    ensures told { λ r. ⌜ Told (run (given (lent (now (sections .entry)) (now (bytes .entry)) (now (outcomes .entry)) (now (functions .entry)) (now (objects .entry)) (now (skips .entry)) (now (entry .entry)))) (room-of (now (rows .entry)) (now (lists .entry)))) (now (rows .entry)) (now (lists .entry)) (now (rows .exit)) (now (lists .exit)) (record { number = r; entries = now (entries .exit); numbers = now (numbers .exit) }) ⌝ }
-    ensures counted { λ r. ⌜ Counted (image (lent (now (sections .entry)) (now (bytes .entry)) (now (outcomes .entry)) (now (functions .entry)) (now (objects .entry)) (now (skips .entry)) (now (entry .entry)))) (now (rows .exit)) (now (lists .exit)) (record { number = r; entries = now (entries .exit); numbers = now (numbers .exit) }) ⌝ }
+    ensures told { λ r.
+        ⌜ Told
+        (run
+        (given
+        (lent (now (sections .entry)) (now (bytes .entry)) (now (outcomes .entry)) (now (functions .entry))
+        (now (objects .entry)) (now (skips .entry)) (now (entry .entry))))
+        (room-of (now (rows .entry)) (now (lists .entry))))
+        (now (rows .entry)) (now (lists .entry)) (now (rows .exit)) (now (lists .exit))
+        (record { number = r; entries = now (entries .exit); numbers = now (numbers .exit) }) ⌝ }
+    ensures counted { λ r.
+        ⌜ Counted
+        (image
+        (lent (now (sections .entry)) (now (bytes .entry)) (now (outcomes .entry)) (now (functions .entry))
+        (now (objects .entry)) (now (skips .entry)) (now (entry .entry))))
+        (now (rows .exit)) (now (lists .exit))
+        (record { number = r; entries = now (entries .exit); numbers = now (numbers .exit) }) ⌝ }
 {
     let m = cfa::detect_functions(
         sections,

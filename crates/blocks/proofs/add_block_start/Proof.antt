@@ -9,7 +9,7 @@ use Rattle.blocks.proofs.add_block_start.Tie as tie
 abbrev S : tie.After-has-room → tie.Start
 S h = h .before .before .before .before .before .before .before
 
-known : (h : tie.After-has-room) → Known (S h .args .n) (S h .args .room) (S h .args .addr) (h .before .before .before .find .result) (h .before .before-place .result) (h .has-room .result) (now (S h .args .ss)) (now (S h .args .es))
+known : (h : tie.After-has-room) → Known (S h .args .len) (S h .args .room) (S h .args .addr) (h .before .before .before .find .result) (h .before .before-place .result) (h .has-room .result) (now (S h .args .ss)) (now (S h .args .es))
 known h = record { table = S h .pre .0; fits = S h .pre .1; place = h .before .before .before .find .ensures; end-is = h .before .before-place .ensures; room-is = h .has-room .ensures }
 
 find-requires : tie.Need-find-requires

@@ -4,7 +4,7 @@ use Rattle.cfa_finalize.proofs.finalize_functions.Statement.{statement}
 use Rattle.cfa_finalize.proofs.finalize_functions.Tie as tie
 
 finalize-each-requires : tie.Need-finalize-each-requires
-finalize-each-requires c κs = let p = c .before .before .before .before .before .before .before .before .before .before .before .before .before .before .before .before .before .before .before .before .before .pre in (p .0, (p .1 .1, (omega (arith, c .before .before .before .before .before .before .before .unfinalized .ensures .few, p .1 .0 .holds .kept .few), omega (arith, c .before .before .before .before .before .before .before .unfinalized .ensures .few, p .1 .0 .holds .kept .few, c .before .before .before .before .before .before .keys2 .given), c .before .before .before .before .before .before .before .unfinalized .ensures .same)))
+finalize-each-requires c κs = let p = c .before .before .before .before .before .before .before .before .before .before .before .before .before .before .before .before .before .before .before .before .before .pre in (p .0, (p .1 .1, (omega (arith, c .before .before .before .before .before .before .before .unfinalized .ensures .few, p .1 .0 .holds .kept .few), omega (arith, c .before .before .before .before .before .before .before .unfinalized .ensures .few, p .1 .0 .holds .kept .few, c .before .before .before .before .before .before .todo2 .given), c .before .before .before .before .before .before .before .unfinalized .ensures .same)))
 
 returns : tie.Need-returns
 returns c = search needs

@@ -10,7 +10,7 @@ same-length : tie.Need-same-length
 same-length c = c .before .lists .given
 
 returns : tie.Need-returns
-returns c = let a = c .before .before .before .before .before .before .before .before .before .before .before .before .before .before .before .before .args in λ l es q h. each-is _ _ _ _ _ _ _ l q (capacity (a .room) (a .lists .now)) es _ _ _ _ _ (a .keys .now) (c .before .before .take-turns .ensures l es q h (fit-each l (capacity (a .room) (a .lists .now)) (a .keys .now) es))
+returns c = let a = c .before .before .before .before .before .before .before .before .before .before .before .before .before .before .before .before .args in λ l es q h. each-is _ _ _ _ _ _ _ l q (capacity (a .room) (a .lists .now)) es _ _ _ _ _ (a .given .now) (c .before .before .take-turns .ensures l es q h (fit-each l (capacity (a .room) (a .lists .now)) (a .given .now) es))
 
 pub process-each-spec : {M : Type 1} → statement M
 process-each-spec =

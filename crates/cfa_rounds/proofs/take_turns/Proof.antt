@@ -11,14 +11,14 @@ abbrev μ-loop : tie.MeasureT-loop
 μ-loop sections bytes outcomes functions objects skips known₀ infos₀ lists₀ k₀ v₀ code room keys stop r₀ known infos lists k v r = left keys known infos lists r
 
 loop-holds : tie.Need-loop-holds Inv-loop μ-loop
-loop-holds c = let a = c .before .before .before .before .before .before .before .before .args in turning-first (a .sections .now) (a .bytes .now) (a .outcomes .now) (a .functions .now) (a .objects .now) (a .skips .now) (a .code) (capacity (a .room) (a .lists .now)) (a .keys .now) (a .stop) (a .run) (a .known .now) (a .infos .now) (a .lists .now) (c .before .before .before .before .before .before .before .before .pre)
+loop-holds c = let a = c .before .before .before .before .before .before .before .before .args in turning-first (a .sections .now) (a .bytes .now) (a .outcomes .now) (a .functions .now) (a .objects .now) (a .skips .now) (a .code) (capacity (a .room) (a .lists .now)) (a .given .now) (a .stop) (a .run) (a .known .now) (a .infos .now) (a .lists .now) (c .before .before .before .before .before .before .before .before .pre)
 
 turn-requires : tie.Need-turn-requires Inv-loop μ-loop
 turn-requires c κs =
     let a = c .before .before .before .before .before .before .before .before .before .before .before .before .before .before .before .before .before .args in
     let i = c .before .before .before .before .before .before .before .before .loop .inv in
     let g = i .running in
-    (record { lent = g .lent; displays = g .displays }, (record { entries = g .entries; holds = g .holds }, (g .few, free (a .sections .now) (a .bytes .now) (a .outcomes .now) (a .functions .now) (a .objects .now) (a .skips .now) (a .code) (capacity (a .room) (a .lists .now)) (a .keys .now) (a .stop) (a .run) (a .known .now) (a .infos .now) (a .lists .now) _ _ _ _ i (goes-on _ _ _ _ (c .before .before .before .before .before .if1 .taken)))))
+    (record { lent = g .lent; displays = g .displays }, (record { entries = g .entries; holds = g .holds }, (g .few, free (a .sections .now) (a .bytes .now) (a .outcomes .now) (a .functions .now) (a .objects .now) (a .skips .now) (a .code) (capacity (a .room) (a .lists .now)) (a .given .now) (a .stop) (a .run) (a .known .now) (a .infos .now) (a .lists .now) _ _ _ _ i (goes-on _ _ _ _ (c .before .before .before .before .before .if1 .taken)))))
 
 same-length : tie.Need-same-length Inv-loop μ-loop
 same-length c = c .before .before .before .lists .given ∙ c .before .before .before .before .before .before .before .before .before .before .before .before .before .loop .inv .size
@@ -27,25 +27,25 @@ returns : tie.Need-returns Inv-loop μ-loop
 returns c =
     let a = c .before .before .before .before .before .before .before .before .before .before .before .before .before .before .before .before .before .before .before .before .before .before .args in
     let i = c .before .before .before .before .before .before .before .before .before .before .before .before .before .loop .inv in
-    turning-fails (a .sections .now) (a .bytes .now) (a .outcomes .now) (a .functions .now) (a .objects .now) (a .skips .now) (a .code) (capacity (a .room) (a .lists .now)) (a .keys .now) (a .stop) (a .run) (a .known .now) (a .infos .now) (a .lists .now) _ _ _ _ i (goes-on _ _ _ _ (c .before .before .before .before .before .before .before .before .before .before .if1 .taken)) _ _ _ _ (same-room (a .sections .now) (a .bytes .now) (a .outcomes .now) (a .functions .now) (a .objects .now) (a .skips .now) (a .code) (a .room) (a .keys .now) (c .before .before .before .before .before .before .before .before .before .before .before .before .before .loop .r) (a .lists .now) _ _ _ _ _ _ _ (i .size) (c .before .before .before .before .turn .ensures)) (c .if2 .taken)
+    turning-fails (a .sections .now) (a .bytes .now) (a .outcomes .now) (a .functions .now) (a .objects .now) (a .skips .now) (a .code) (capacity (a .room) (a .lists .now)) (a .given .now) (a .stop) (a .run) (a .known .now) (a .infos .now) (a .lists .now) _ _ _ _ i (goes-on _ _ _ _ (c .before .before .before .before .before .before .before .before .before .before .if1 .taken)) _ _ _ _ (same-room (a .sections .now) (a .bytes .now) (a .outcomes .now) (a .functions .now) (a .objects .now) (a .skips .now) (a .code) (a .room) (a .given .now) (c .before .before .before .before .before .before .before .before .before .before .before .before .before .loop .r) (a .lists .now) _ _ _ _ _ _ _ (i .size) (c .before .before .before .before .turn .ensures)) (c .if2 .taken)
 
 loop-less : tie.Need-loop-less Inv-loop μ-loop
 loop-less c =
     let a = c .before .before .before .before .before .before .before .before .before .before .before .before .before .before .before .before .before .before .before .before .before .before .args in
     let i = c .before .before .before .before .before .before .before .before .before .before .before .before .before .loop .inv in
-    turning-less (a .sections .now) (a .bytes .now) (a .outcomes .now) (a .functions .now) (a .objects .now) (a .skips .now) (a .code) (capacity (a .room) (a .lists .now)) (a .keys .now) (a .stop) (a .run) (a .known .now) (a .infos .now) (a .lists .now) _ _ _ _ i (goes-on _ _ _ _ (c .before .before .before .before .before .before .before .before .before .before .if1 .taken)) _ _ _ _ (same-room (a .sections .now) (a .bytes .now) (a .outcomes .now) (a .functions .now) (a .objects .now) (a .skips .now) (a .code) (a .room) (a .keys .now) (c .before .before .before .before .before .before .before .before .before .before .before .before .before .loop .r) (a .lists .now) _ _ _ _ _ _ _ (i .size) (c .before .before .before .before .turn .ensures)) (c .if2 .left)
+    turning-less (a .sections .now) (a .bytes .now) (a .outcomes .now) (a .functions .now) (a .objects .now) (a .skips .now) (a .code) (capacity (a .room) (a .lists .now)) (a .given .now) (a .stop) (a .run) (a .known .now) (a .infos .now) (a .lists .now) _ _ _ _ i (goes-on _ _ _ _ (c .before .before .before .before .before .before .before .before .before .before .if1 .taken)) _ _ _ _ (same-room (a .sections .now) (a .bytes .now) (a .outcomes .now) (a .functions .now) (a .objects .now) (a .skips .now) (a .code) (a .room) (a .given .now) (c .before .before .before .before .before .before .before .before .before .before .before .before .before .loop .r) (a .lists .now) _ _ _ _ _ _ _ (i .size) (c .before .before .before .before .turn .ensures)) (c .if2 .left)
 
 loop-again : tie.Need-loop-again Inv-loop μ-loop
 loop-again c =
     let a = c .before .before .before .before .before .before .before .before .before .before .before .before .before .before .before .before .before .before .before .before .before .before .args in
     let i = c .before .before .before .before .before .before .before .before .before .before .before .before .before .loop .inv in
-    turning-on (a .sections .now) (a .bytes .now) (a .outcomes .now) (a .functions .now) (a .objects .now) (a .skips .now) (a .code) (capacity (a .room) (a .lists .now)) (a .keys .now) (a .stop) (a .run) (a .known .now) (a .infos .now) (a .lists .now) _ _ _ _ i (goes-on _ _ _ _ (c .before .before .before .before .before .before .before .before .before .before .if1 .taken)) _ _ _ _ (same-room (a .sections .now) (a .bytes .now) (a .outcomes .now) (a .functions .now) (a .objects .now) (a .skips .now) (a .code) (a .room) (a .keys .now) (c .before .before .before .before .before .before .before .before .before .before .before .before .before .loop .r) (a .lists .now) _ _ _ _ _ _ _ (i .size) (c .before .before .before .before .turn .ensures)) (c .if2 .left) (c .before .before .before .lists .given)
+    turning-on (a .sections .now) (a .bytes .now) (a .outcomes .now) (a .functions .now) (a .objects .now) (a .skips .now) (a .code) (capacity (a .room) (a .lists .now)) (a .given .now) (a .stop) (a .run) (a .known .now) (a .infos .now) (a .lists .now) _ _ _ _ i (goes-on _ _ _ _ (c .before .before .before .before .before .before .before .before .before .before .if1 .taken)) _ _ _ _ (same-room (a .sections .now) (a .bytes .now) (a .outcomes .now) (a .functions .now) (a .objects .now) (a .skips .now) (a .code) (a .room) (a .given .now) (c .before .before .before .before .before .before .before .before .before .before .before .before .before .loop .r) (a .lists .now) _ _ _ _ _ _ _ (i .size) (c .before .before .before .before .turn .ensures)) (c .if2 .left) (c .before .before .before .lists .given)
 
 same-length-2 : tie.Need-same-length-2 Inv-loop μ-loop
 same-length-2 c = c .before .before .before .loop .inv .size
 
 returns-2 : tie.Need-returns-2 Inv-loop μ-loop
-returns-2 c = let a = c .before .before .before .before .before .before .before .before .before .before .before .before .args in let d = is-over _ _ _ _ (c .if1 .left) in turning-ends (a .sections .now) (a .bytes .now) (a .outcomes .now) (a .functions .now) (a .objects .now) (a .skips .now) (a .code) (capacity (a .room) (a .lists .now)) (a .keys .now) (a .stop) (a .run) (a .known .now) (a .infos .now) (a .lists .now) _ _ _ _ (c .before .before .before .loop .inv) (d .0) (d .1)
+returns-2 c = let a = c .before .before .before .before .before .before .before .before .before .before .before .before .args in let d = is-over _ _ _ _ (c .if1 .left) in turning-ends (a .sections .now) (a .bytes .now) (a .outcomes .now) (a .functions .now) (a .objects .now) (a .skips .now) (a .code) (capacity (a .room) (a .lists .now)) (a .given .now) (a .stop) (a .run) (a .known .now) (a .infos .now) (a .lists .now) _ _ _ _ (c .before .before .before .loop .inv) (d .0) (d .1)
 
 pub take-turns-spec : {M : Type 1} → statement M
 take-turns-spec =

@@ -10,7 +10,7 @@ set-end-requires : tie.Need-set-end-requires
 set-end-requires c κs = c .before .before .before .before .before .before .pre .0
 
 returns : tie.Need-returns
-returns c = λ l es q h. symbol-told l _ q (c .before .before .before .before .before .before .before .args .s) _ _ (key-at _ _ _ (c .before .before .before .before .wide .ensures .0)) (c .before .before .before .end-of .ensures) _ es _ _ _ _ _ (c .set-end .ensures es h)
+returns c = λ l es q h. symbol-told l _ q (c .before .before .before .before .before .before .before .args .symbol) _ _ (key-at _ _ _ (c .before .before .before .before .wide .ensures .0)) (c .before .before .before .end-of .ensures) _ es _ _ _ _ _ (c .set-end .ensures es h)
 
 pub add-symbol-spec : {M : Type 1} → statement M
 add-symbol-spec =

@@ -23,7 +23,7 @@ is-unfinalized-requires : tie.Need-is-unfinalized-requires Inv-loop μ-loop
 is-unfinalized-requires c κs = (c .before .before .before .before .before .pre, c .loop-test .taken)
 
 returns : tie.Need-returns Inv-loop μ-loop
-returns c = let a = c .before .before .before .before .before .before .before .args in λ es h. unfinalized-here (a .n) (a .known .now) (a .infos .now) (a .lists .now) es h _ (c .before .before .before .loop .inv .1 es h) (c .before .before .loop-test .taken) _ (c .before .is-unfinalized .ensures es h) (c .if1 .taken)
+returns c = let a = c .before .before .before .before .before .before .before .args in λ es h. unfinalized-here (a .count) (a .known .now) (a .infos .now) (a .lists .now) es h _ (c .before .before .before .loop .inv .1 es h) (c .before .before .loop-test .taken) _ (c .before .is-unfinalized .ensures es h) (c .if1 .taken)
 
 add-i : tie.Need-add-i Inv-loop μ-loop
 add-i c = omega (arith, c .before .before .loop-test .taken)
@@ -32,10 +32,10 @@ loop-less : tie.Need-loop-less Inv-loop μ-loop
 loop-less c = omega (arith, c .before .before .loop-test .taken)
 
 loop-again : tie.Need-loop-again Inv-loop μ-loop
-loop-again c = let a = c .before .before .before .before .before .before .before .args in (omega (arith, c .before .before .loop-test .taken), λ es h. finalized-next (a .n) (a .known .now) (a .infos .now) (a .lists .now) es h _ (c .before .before .before .loop .inv .1 es h) (c .before .before .loop-test .taken) _ (c .before .is-unfinalized .ensures es h) (c .if1 .left))
+loop-again c = let a = c .before .before .before .before .before .before .before .args in (omega (arith, c .before .before .loop-test .taken), λ es h. finalized-next (a .count) (a .known .now) (a .infos .now) (a .lists .now) es h _ (c .before .before .before .loop .inv .1 es h) (c .before .before .loop-test .taken) _ (c .before .is-unfinalized .ensures es h) (c .if1 .left))
 
 returns-2 : tie.Need-returns-2 Inv-loop μ-loop
-returns-2 c = let a = c .before .before .before .before .before .args in λ es h. finalized-all (a .n) (a .known .now) (a .infos .now) (a .lists .now) es h _ (c .before .loop .inv .1 es h) (c .loop-test .left)
+returns-2 c = let a = c .before .before .before .before .before .args in λ es h. finalized-all (a .count) (a .known .now) (a .infos .now) (a .lists .now) es h _ (c .before .loop .inv .1 es h) (c .loop-test .left)
 
 pub any-unfinalized-spec : {M : Type 1} → statement M
 any-unfinalized-spec =

@@ -36,7 +36,7 @@ loop-less : tie.Need-loop-less Inv-loop μ-loop
 loop-less c = omega (arith, c .before .before .before .before .before .before .before .before .pre .holds .kept .few, c .before .before .before .before .before .before .before .before .pre .holds .lent, c .before .before .before .before .before .before .before .before .pre .holds .kept .size, c .before .before .before .loop-test .taken)
 
 loop-again : tie.Need-loop-again Inv-loop μ-loop
-loop-again c = let a = c .before .before .before .before .before .before .before .before .args in (omega (arith, c .before .before .before .before .before .before .before .before .pre .holds .kept .few, c .before .before .before .before .before .before .before .before .pre .holds .lent, c .before .before .before .before .before .before .before .before .pre .holds .kept .size, c .before .before .before .loop-test .taken), λ es h. bounded-next (a .n) (a .known .now) (a .infos .now) (a .lists .now) es h _ (c .before .before .before .before .loop .inv .1 es h) (c .before .before .before .loop-test .taken) _ (c .before .is-odd .ensures) (c .if1 .taken))
+loop-again c = let a = c .before .before .before .before .before .before .before .before .args in (omega (arith, c .before .before .before .before .before .before .before .before .pre .holds .kept .few, c .before .before .before .before .before .before .before .before .pre .holds .lent, c .before .before .before .before .before .before .before .before .pre .holds .kept .size, c .before .before .before .loop-test .taken), λ es h. bounded-next (a .count) (a .known .now) (a .infos .now) (a .lists .now) es h _ (c .before .before .before .before .loop .inv .1 es h) (c .before .before .before .loop-test .taken) _ (c .before .is-odd .ensures) (c .if1 .taken))
 
 mul-result : tie.Need-mul-result Inv-loop μ-loop
 mul-result c = omega (arith, c .before .before .before .before .before .before .before .before .pre .holds .kept .few, c .before .before .before .before .before .before .before .before .pre .holds .lent, c .before .before .before .before .before .before .before .before .pre .holds .kept .size, c .before .before .before .loop-test .taken)
@@ -45,10 +45,10 @@ shared-slice-read-result : tie.Need-shared-slice-read-result Inv-loop μ-loop
 shared-slice-read-result c = omega (arith, c .before .before .before .before .before .before .before .before .before .pre .holds .kept .few, c .before .before .before .before .before .before .before .before .before .pre .holds .lent, c .before .before .before .before .before .before .before .before .before .pre .holds .kept .size, c .before .before .before .before .loop-test .taken)
 
 returns : tie.Need-returns Inv-loop μ-loop
-returns c = let a = c .before .before .before .before .before .before .before .before .before .args in λ es h. unbounded-here (a .n) (a .known .now) (a .infos .now) (a .lists .now) es h _ (c .before .before .before .before .before .loop .inv .1 es h) (c .before .before .before .before .loop-test .taken) _ (c .before .before .is-odd .ensures) (c .before .if1 .left)
+returns c = let a = c .before .before .before .before .before .before .before .before .before .args in λ es h. unbounded-here (a .count) (a .known .now) (a .infos .now) (a .lists .now) es h _ (c .before .before .before .before .before .loop .inv .1 es h) (c .before .before .before .before .loop-test .taken) _ (c .before .before .is-odd .ensures) (c .before .if1 .left)
 
 returns-2 : tie.Need-returns-2 Inv-loop μ-loop
-returns-2 c = let a = c .before .before .before .before .before .args in λ es h. bounded-all (a .n) (a .known .now) (a .infos .now) (a .lists .now) es h _ (c .before .loop .inv .1 es h) (c .loop-test .left)
+returns-2 c = let a = c .before .before .before .before .before .args in λ es h. bounded-all (a .count) (a .known .now) (a .infos .now) (a .lists .now) es h _ (c .before .loop .inv .1 es h) (c .loop-test .left)
 
 pub first-unbounded-function-spec : {M : Type 1} → statement M
 first-unbounded-function-spec =

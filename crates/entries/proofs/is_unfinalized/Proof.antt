@@ -4,7 +4,7 @@ use Rattle.entries.proofs.is_unfinalized.Statement.{statement}
 use Rattle.entries.proofs.is_unfinalized.Tie as tie
 
 returns : tie.Need-returns
-returns c = let a = c .before .before .before .before .before .before .args in λ es h. unfinalized-at (a .n) (a .known .now) (a .infos .now) (a .lists .now) es h (a .i) (c .before .before .before .before .before .before .pre .1) _ (c .lacks-end .ensures)
+returns c = let a = c .before .before .before .before .before .before .args in λ es h. unfinalized-at (a .count) (a .known .now) (a .infos .now) (a .lists .now) es h (a .i) (c .before .before .before .before .before .before .pre .1) _ (c .lacks-end .ensures)
 
 pub is-unfinalized-spec : {M : Type 1} → statement M
 is-unfinalized-spec =

@@ -4,7 +4,7 @@ use Rattle.entries.proofs.put.Statement.{statement}
 use Rattle.entries.proofs.put.Tie as tie
 
 returns : tie.Need-returns
-returns c = let a = c .before .before .before .before .before .before .before .args in from-part (a .xs .now) (a .a) (a .l .now) (a .at) (a .n) _ (c .before .before .copy-in .ensures)
+returns c = let a = c .before .before .before .before .before .before .before .args in from-part (a .xs .now) (a .a) (a .l .now) (a .at) (a .count) _ (c .before .before .copy-in .ensures)
 
 pub put-spec : {M : Type 1} → statement M
 put-spec =

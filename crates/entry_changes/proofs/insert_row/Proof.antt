@@ -4,7 +4,7 @@ use Rattle.entry_changes.proofs.insert_row.Statement.{statement}
 use Rattle.entry_changes.proofs.insert_row.Tie as tie
 
 returns : tie.Need-returns
-returns c = let a = c .before .before .before .before .before .args in row-inserted (a .infos .now) (a .n) (a .i) _ _ (c .before .before .splice-fill .ensures .0) (c .before .before .splice-fill .ensures .1)
+returns c = let a = c .before .before .before .before .before .args in row-inserted (a .infos .now) (a .count) (a .i) _ _ (c .before .before .splice-fill .ensures .0) (c .before .before .splice-fill .ensures .1)
 
 pub insert-row-spec : {M : Type 1} → statement M
 insert-row-spec =

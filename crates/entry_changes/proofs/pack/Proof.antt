@@ -5,34 +5,34 @@ use Rattle.entry_changes.proofs.pack.Statement.{statement}
 use Rattle.entry_changes.proofs.pack.Tie as tie
 
 mul-b : tie.Need-mul-b
-mul-b c = let s = c .before .before .args .s in omega (arith, flag-small _ (s .finalized) (c .before .bit .ensures), flag-small _ (s .load) (c .bit2 .ensures))
+mul-b c = let s = c .before .before .args .slices in omega (arith, flag-small _ (s .finalized) (c .before .bit .ensures), flag-small _ (s .load) (c .bit2 .ensures))
 
 add-b : tie.Need-add-b
-add-b c = let s = c .before .before .args .s in omega (arith, flag-small _ (s .finalized) (c .before .bit .ensures), flag-small _ (s .load) (c .bit2 .ensures))
+add-b c = let s = c .before .before .args .slices in omega (arith, flag-small _ (s .finalized) (c .before .bit .ensures), flag-small _ (s .load) (c .bit2 .ensures))
 
 mul-c : tie.Need-mul-c
-mul-c c = let s = c .before .before .before .args .s in omega (arith, flag-small _ (s .finalized) (c .before .before .bit .ensures), flag-small _ (s .load) (c .before .bit2 .ensures), flag-small _ (s .rfi) (c .bit3 .ensures))
+mul-c c = let s = c .before .before .before .args .slices in omega (arith, flag-small _ (s .finalized) (c .before .before .bit .ensures), flag-small _ (s .load) (c .before .bit2 .ensures), flag-small _ (s .rfi) (c .bit3 .ensures))
 
 add-c : tie.Need-add-c
-add-c c = let s = c .before .before .before .args .s in omega (arith, flag-small _ (s .finalized) (c .before .before .bit .ensures), flag-small _ (s .load) (c .before .bit2 .ensures), flag-small _ (s .rfi) (c .bit3 .ensures))
+add-c c = let s = c .before .before .before .args .slices in omega (arith, flag-small _ (s .finalized) (c .before .before .bit .ensures), flag-small _ (s .load) (c .before .bit2 .ensures), flag-small _ (s .rfi) (c .bit3 .ensures))
 
 mul-d : tie.Need-mul-d
-mul-d c = let s = c .before .before .before .before .args .s in omega (arith, flag-small _ (s .finalized) (c .before .before .before .bit .ensures), flag-small _ (s .load) (c .before .before .bit2 .ensures), flag-small _ (s .rfi) (c .before .bit3 .ensures), flag-small _ (s .conditional) (c .bit4 .ensures))
+mul-d c = let s = c .before .before .before .before .args .slices in omega (arith, flag-small _ (s .finalized) (c .before .before .before .bit .ensures), flag-small _ (s .load) (c .before .before .bit2 .ensures), flag-small _ (s .rfi) (c .before .bit3 .ensures), flag-small _ (s .conditional) (c .bit4 .ensures))
 
 add-d : tie.Need-add-d
-add-d c = let s = c .before .before .before .before .args .s in omega (arith, flag-small _ (s .finalized) (c .before .before .before .bit .ensures), flag-small _ (s .load) (c .before .before .bit2 .ensures), flag-small _ (s .rfi) (c .before .bit3 .ensures), flag-small _ (s .conditional) (c .bit4 .ensures))
+add-d c = let s = c .before .before .before .before .args .slices in omega (arith, flag-small _ (s .finalized) (c .before .before .before .bit .ensures), flag-small _ (s .load) (c .before .before .bit2 .ensures), flag-small _ (s .rfi) (c .before .bit3 .ensures), flag-small _ (s .conditional) (c .bit4 .ensures))
 
 mul-result : tie.Need-mul-result
-mul-result c = let s = c .before .before .before .before .args .s in omega (arith, flag-small _ (s .finalized) (c .before .before .before .bit .ensures), flag-small _ (s .load) (c .before .before .bit2 .ensures), flag-small _ (s .rfi) (c .before .bit3 .ensures), flag-small _ (s .conditional) (c .bit4 .ensures))
+mul-result c = let s = c .before .before .before .before .args .slices in omega (arith, flag-small _ (s .finalized) (c .before .before .before .bit .ensures), flag-small _ (s .load) (c .before .before .bit2 .ensures), flag-small _ (s .rfi) (c .before .bit3 .ensures), flag-small _ (s .conditional) (c .bit4 .ensures))
 
 add-result : tie.Need-add-result
-add-result c = let s = c .before .before .before .before .args .s in omega (arith, flag-small _ (s .finalized) (c .before .before .before .bit .ensures), flag-small _ (s .load) (c .before .before .bit2 .ensures), flag-small _ (s .rfi) (c .before .bit3 .ensures), flag-small _ (s .conditional) (c .bit4 .ensures))
+add-result c = let s = c .before .before .before .before .args .slices in omega (arith, flag-small _ (s .finalized) (c .before .before .before .bit .ensures), flag-small _ (s .load) (c .before .before .bit2 .ensures), flag-small _ (s .rfi) (c .before .bit3 .ensures), flag-small _ (s .conditional) (c .bit4 .ensures))
 
 mul-result-2 : tie.Need-mul-result-2
-mul-result-2 c = let s = c .before .before .before .before .args .s in omega (arith, flag-small _ (s .finalized) (c .before .before .before .bit .ensures), flag-small _ (s .load) (c .before .before .bit2 .ensures), flag-small _ (s .rfi) (c .before .bit3 .ensures), flag-small _ (s .conditional) (c .bit4 .ensures))
+mul-result-2 c = let s = c .before .before .before .before .args .slices in omega (arith, flag-small _ (s .finalized) (c .before .before .before .bit .ensures), flag-small _ (s .load) (c .before .before .bit2 .ensures), flag-small _ (s .rfi) (c .before .bit3 .ensures), flag-small _ (s .conditional) (c .bit4 .ensures))
 
 add-result-2 : tie.Need-add-result-2
-add-result-2 c = let s = c .before .before .before .before .args .s in omega (arith, flag-small _ (s .finalized) (c .before .before .before .bit .ensures), flag-small _ (s .load) (c .before .before .bit2 .ensures), flag-small _ (s .rfi) (c .before .bit3 .ensures), flag-small _ (s .conditional) (c .bit4 .ensures))
+add-result-2 c = let s = c .before .before .before .before .args .slices in omega (arith, flag-small _ (s .finalized) (c .before .before .before .bit .ensures), flag-small _ (s .load) (c .before .before .bit2 .ensures), flag-small _ (s .rfi) (c .before .bit3 .ensures), flag-small _ (s .conditional) (c .bit4 .ensures))
 
 returns : tie.Need-returns
 returns c = search needs

@@ -27,7 +27,7 @@ slice-write-infos-8 : tie.Need-slice-write-infos-8
 slice-write-infos-8 c = simp length-set (omega (arith, c .before .before .before .before .before .before .before .pre))
 
 returns : tie.Need-returns
-returns c = row-put _ _ (c .before .before .before .before .before .before .before .args .s) (c .before .before .before .before .before .before .before .pre) (c .before .before .before .before .before .pack .ensures) (c .before .before .before .before .number .ensures) (c .before .before .before .number2 .ensures) (c .before .before .number3 .ensures) (c .before .number4 .ensures) (c .number5 .ensures)
+returns c = row-put _ _ (c .before .before .before .before .before .before .before .args .slices) (c .before .before .before .before .before .before .before .pre) (c .before .before .before .before .before .pack .ensures) (c .before .before .before .before .number .ensures) (c .before .before .before .number2 .ensures) (c .before .before .number3 .ensures) (c .before .number4 .ensures) (c .number5 .ensures)
 
 pub put-row-spec : {M : Type 1} → statement M
 put-row-spec =

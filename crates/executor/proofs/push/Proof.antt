@@ -1,4 +1,4 @@
-use Rattle.lists.specs.View.{part}
+use Rattle.function_slices.specs.View.{part}
 use Rattle.executor.proofs.Pending.{pushed-full, pushed}
 use borrow.Author.Needs.{needs}
 use Rattle.executor.proofs.push.Statement.{statement}

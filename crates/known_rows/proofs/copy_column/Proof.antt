@@ -39,13 +39,13 @@ loop-less : tie.Need-loop-less Inv-loop μ-loop
 loop-less c = omega arith
 
 loop-again : tie.Need-loop-again Inv-loop μ-loop
-loop-again c = (omega arith, copied-next _ _ _ (c .before .before .before .args .n) _ _ (c .before .before .before .pre .0) (c .before .before .before .pre .1) (c .before .before .before .pre .2) (c .before .loop-test .taken) (c .before .before .loop .inv .1))
+loop-again c = (omega arith, copied-next _ _ _ (c .before .before .before .args .count) _ _ (c .before .before .before .pre .0) (c .before .before .before .pre .1) (c .before .before .before .pre .2) (c .before .loop-test .taken) (c .before .before .loop .inv .1))
 
 same-length : tie.Need-same-length Inv-loop μ-loop
 same-length c = c .before .loop .inv .1 .size
 
 returns : tie.Need-returns Inv-loop μ-loop
-returns c = let e : c .before .loop .i ≡ c .before .before .args .n = omega arith in (c .before .loop .inv .1 .size, rw e at (c .before .loop .inv .1 .same))
+returns c = let e : c .before .loop .i ≡ c .before .before .args .count = omega arith in (c .before .loop .inv .1 .size, rw e at (c .before .loop .inv .1 .same))
 
 pub copy-column-spec : {M : Type 1} → statement M
 copy-column-spec =

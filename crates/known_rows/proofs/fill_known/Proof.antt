@@ -1,4 +1,4 @@
-use Rattle.lists.specs.View.{part}
+use Rattle.function_slices.specs.View.{part}
 use Rattle.known_rows.proofs.Cases.{both-filled}
 use borrow.Author.Needs.{needs}
 use Rattle.known_rows.proofs.fill_known.Statement.{statement}

@@ -1,4 +1,4 @@
-use Rattle.lists.specs.View.{part}
+use Rattle.function_slices.specs.View.{part}
 use Rattle.known_rows.proofs.Cases.{taken-odd, taken-many, fill-needs, ascends-needs, taken-as-told}
 use borrow.Author.Needs.{needs}
 use Rattle.known_rows.proofs.take_known.Statement.{statement}

@@ -7,10 +7,10 @@ use Rattle.lines.proofs.end_of.Statement.{statement}
 use Rattle.lines.proofs.end_of.Tie as tie
 
 mul-result : tie.Need-mul-result
-mul-result c = omega (arith, mul-le-mul {n₁ = c .before .before .args .n - c .before .before .args .line} {m₁ = c .before .before .args .count} {n₂ = 400000} {m₂ = 4294967295} (omega arith) (omega arith))
+mul-result c = omega (arith, mul-le-mul {n₁ = c .before .before .args .len - c .before .before .args .line} {m₁ = c .before .before .args .count} {n₂ = 400000} {m₂ = 4294967295} (omega arith) (omega arith))
 
 add-result : tie.Need-add-result
-add-result c = omega (arith, mul-le-mul {n₁ = c .before .before .args .n - c .before .before .args .line} {m₁ = c .before .before .args .count} {n₂ = 400000} {m₂ = 4294967295} (omega arith) (omega arith))
+add-result c = omega (arith, mul-le-mul {n₁ = c .before .before .args .len - c .before .before .args .line} {m₁ = c .before .before .args .count} {n₂ = 400000} {m₂ = 4294967295} (omega arith) (omega arith))
 
 returns : tie.Need-returns
 returns c = search needs

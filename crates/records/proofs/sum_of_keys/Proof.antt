@@ -2,7 +2,7 @@ use Prim.Native.Nat.{_≤_, _-_}
 use borrow.Author.Needs.{needs}
 use Rattle.records.proofs.sum_of_keys.Statement.{statement}
 use Rattle.records.proofs.sum_of_keys.Tie as tie
-use Rattle.lists.specs.Places.{KEYS}
+use Rattle.function_slices.specs.Places.{KEYS}
 
 abbrev Inv-loop : tie.InvT-loop
 Inv-loop k h₀ i₀ h i = i ≤ KEYS

@@ -11,8 +11,8 @@ returns c = (refl, record { within = λ _. rw (c .if1 .taken) (refl, refl); past
 
 returns-2 : tie.Need-returns-2
 returns-2 c =
-    let h : 0 < c .before .before .before .args .n = omega arith in
-    (refl, record { within = λ _. rw (stack-pop (c .before .before .before .args .a .now) (c .before .before .before .args .n) h) (refl, refl); past = λ l. absurd (omega arith) })
+    let h : 0 < c .before .before .before .args .count = omega arith in
+    (refl, record { within = λ _. rw (stack-pop (c .before .before .before .args .a .now) (c .before .before .before .args .count) h) (refl, refl); past = λ l. absurd (omega arith) })
 
 returns-3 : tie.Need-returns-3
 returns-3 c = (refl, record { within = λ l. absurd (omega arith); past = λ _. (refl, refl) })

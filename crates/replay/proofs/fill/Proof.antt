@@ -6,7 +6,7 @@ use Rattle.replay.proofs.fill.Statement.{statement}
 use Rattle.replay.proofs.fill.Tie as tie
 
 returns : tie.Need-returns
-returns c = (search needs, take-put (c .before .before .before .before .before .args .n) (length (c .before .before .before .before .before .args .text .now) - c .before .before .before .before .before .args .n) (c .before .before .before .before .before .args .text .now) (c .before .before .read-full .last .1 .0) (c .before .before .before .before .before .pre))
+returns c = (search needs, take-put (c .before .before .before .before .before .args .count) (length (c .before .before .before .before .before .args .text .now) - c .before .before .before .before .before .args .count) (c .before .before .before .before .before .args .text .now) (c .before .before .read-full .last .1 .0) (c .before .before .before .before .before .pre))
 
 pub fill-spec : {M : Type 1} → statement M
 fill-spec =

@@ -18,7 +18,7 @@ loop-again : tie.Need-loop-again Inv-loop μ-loop
 loop-again c = (omega arith, copied-next _ _ _ _ _ _ (omega arith) (omega arith) refl (c .before .before .loop .inv .1))
 
 returns : tie.Need-returns Inv-loop μ-loop
-returns c = let e : c .before .loop .k ≡ c .before .before .args .n = omega arith in rw e at (c .before .loop .inv .1 .same)
+returns c = let e : c .before .loop .k ≡ c .before .before .args .count = omega arith in rw e at (c .before .loop .inv .1 .same)
 
 pub copy-in-spec : {M : Type 1} → statement M
 copy-in-spec =

@@ -4,7 +4,7 @@ use Rattle.runs.proofs.shift.Statement.{statement}
 use Rattle.runs.proofs.shift.Tie as tie
 
 returns : tie.Need-returns
-returns c = paste-self _ _ _ (c .before .before .args .n) (c .if1 .taken)
+returns c = paste-self _ _ _ (c .before .before .args .count) (c .if1 .taken)
 
 pub shift-spec : {M : Type 1} → statement M
 shift-spec =

@@ -4,7 +4,7 @@ use Rattle.settle.proofs.refer.Statement.{statement}
 use Rattle.settle.proofs.refer.Tie as tie
 
 returns : tie.Need-returns
-returns c = referred _ _ _ _ _ _ _ (c .before .before .before .discard-possible .ensures) _ _ _ (c .add-reference .ensures) _
+returns c = referred _ _ _ _ _ _ _ (c .before .before .before .discard-possible-block .ensures) _ _ _ (c .add-function-reference .ensures) _
 
 pub refer-spec : {M : Type 1} → statement M
 refer-spec =

@@ -1,5 +1,5 @@
-use Rattle.lists.specs.View.{part}
-use Rattle.stored.proofs.Cases.{blocks-first, ways-next, flow-laid}
+use Rattle.function_slices.specs.View.{part}
+use Rattle.stored.proofs.Cases.{blocks-first, branches-next, flow-laid}
 use borrow.Author.Needs.{needs}
 use Rattle.stored.proofs.put_flow.Statement.{statement}
 use Rattle.stored.proofs.put_flow.Tie as tie
@@ -10,7 +10,7 @@ put-columns-requires c κs = blocks-first _ _ _ (c .before .before .before .befo
 
 put-columns-requires-2 : tie.Need-put-columns-requires-2
 unfolding part
-put-columns-requires-2 c κs = ways-next _ _ _ (c .before .before .before .before .before .before .before .before .before .before .before .before .pre .0) _ _ (c .before .before .before .before .before .before .before .before .before .before .before .before .pre .1) _ _ (c .before .before .before .before .before .put-columns .ensures)
+put-columns-requires-2 c κs = branches-next _ _ _ (c .before .before .before .before .before .before .before .before .before .before .before .before .pre .0) _ _ (c .before .before .before .before .before .before .before .before .before .before .before .before .pre .1) _ _ (c .before .before .before .before .before .put-columns .ensures)
 
 returns : tie.Need-returns
 unfolding part

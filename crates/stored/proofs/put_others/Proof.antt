@@ -1,4 +1,4 @@
-use Rattle.lists.specs.View.{part}
+use Rattle.function_slices.specs.View.{part}
 use Rattle.stored.proofs.Cases.{references-first, tables-next, possible-next, others-laid}
 use borrow.Author.Needs.{needs}
 use Rattle.stored.proofs.put_others.Statement.{statement}

@@ -11,10 +11,10 @@ returns-2 : tie.Need-returns-2
 returns-2 c = λ e alike knows. none-between _ _ _ _ _ _ e alike knows (omega arith)
 
 returns-3 : tie.Need-returns-3
-returns-3 c = λ e alike knows. reference-between _ _ _ _ _ _ e alike knows _ (c .before .any-reference .ensures) (c .if3 .taken)
+returns-3 c = λ e alike knows. reference-between _ _ _ _ _ _ e alike knows _ (c .before .any-function-reference .ensures) (c .if3 .taken)
 
 returns-4 : tie.Need-returns-4
-returns-4 c = λ e alike knows. entry-between _ _ _ _ _ _ e alike knows _ (c .before .before .any-reference .ensures) _ (c .before .if3 .left) (c .any-between .ensures)
+returns-4 c = λ e alike knows. entry-between _ _ _ _ _ _ e alike knows _ (c .before .before .any-function-reference .ensures) _ (c .before .if3 .left) (c .any-between .ensures)
 
 pub is-referred-spec : {M : Type 1} → statement M
 is-referred-spec =

@@ -1,5 +1,5 @@
-use Rattle.lists.proofs.Stores.{possible-lie}
-use Rattle.lists.specs.View.{part}
+use Rattle.function_slices.proofs.Stores.{possible-lie}
+use Rattle.function_slices.specs.View.{part}
 use Rattle.tail_calls.proofs.Answers.{others-gone, no-others}
 use borrow.Author.Needs.{needs}
 use Rattle.tail_calls.proofs.judge_others.Statement.{statement}

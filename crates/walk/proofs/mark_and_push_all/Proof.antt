@@ -20,10 +20,10 @@ mark-and-push-requires : tie.Need-mark-and-push-requires Inv-loop μ-loop
 mark-and-push-requires c κs = c .before .before .before .before .loop .inv .going
 
 same-length : tie.Need-same-length Inv-loop μ-loop
-same-length c = (c .before .before .before .before .before .k .given) ∙ (c .before .before .before .before .before .before .before .before .before .before .before .loop .inv .keys)
+same-length c = (c .before .before .before .before .before .keys .given) ∙ (c .before .before .before .before .before .before .before .before .before .before .before .loop .inv .keys)
 
 same-length-2 : tie.Need-same-length-2 Inv-loop μ-loop
-same-length-2 c = (c .before .before .before .v .given) ∙ (c .before .before .before .before .before .before .before .before .before .before .before .loop .inv .values)
+same-length-2 c = (c .before .before .before .values .given) ∙ (c .before .before .before .before .before .before .before .before .before .before .before .loop .inv .values)
 
 returns : tie.Need-returns Inv-loop μ-loop
 returns c = λ vis. rw (← marks-each) (stopped-at _ _ _ _ _ _ _ _ _ _ _ _ _ (c .before .before .before .before .before .before .before .before .before .before .before .before .before .before .before .pre .1) (c .before .before .before .before .before .before .before .before .before .before .loop-test .taken) (c .before .before .before .before .before .before .before .before .before .before .before .loop .inv) (c .before .before .before .before .before .before .mark-and-push .ensures) (c .if1 .taken) vis)
@@ -32,7 +32,7 @@ loop-less : tie.Need-loop-less Inv-loop μ-loop
 loop-less c = omega arith
 
 loop-again : tie.Need-loop-again Inv-loop μ-loop
-loop-again c = done-one _ _ _ _ _ _ _ _ _ _ _ _ _ (c .before .before .before .before .before .before .before .before .before .before .before .before .before .before .before .pre .1) (c .before .before .before .before .before .k .given) (c .before .before .before .v .given) (c .before .before .before .before .before .before .before .before .before .before .loop-test .taken) (c .before .before .before .before .before .before .before .before .before .before .before .loop .inv) (c .before .before .before .before .before .before .mark-and-push .ensures) (c .if1 .left)
+loop-again c = done-one _ _ _ _ _ _ _ _ _ _ _ _ _ (c .before .before .before .before .before .before .before .before .before .before .before .before .before .before .before .pre .1) (c .before .before .before .before .before .keys .given) (c .before .before .before .values .given) (c .before .before .before .before .before .before .before .before .before .before .loop-test .taken) (c .before .before .before .before .before .before .before .before .before .before .before .loop .inv) (c .before .before .before .before .before .before .mark-and-push .ensures) (c .if1 .left)
 
 same-length-3 : tie.Need-same-length-3 Inv-loop μ-loop
 same-length-3 c = c .before .loop .inv .keys

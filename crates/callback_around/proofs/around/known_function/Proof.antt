@@ -4,10 +4,10 @@ use Rattle.callback_around.proofs.around.known_function.Statement.{stat
 use Rattle.callback_around.proofs.around.known_function.Tie as tie
 
 returns : tie.Need-returns
-returns c = λ e knows. known-reference e _ _ _ (c .before .is-reference .ensures) (c .if1 .taken)
+returns c = λ e knows. known-reference e _ _ _ (c .before .is-function-reference .ensures) (c .if1 .taken)
 
 returns-2 : tie.Need-returns-2
-returns-2 c = λ e knows. known-entry e _ _ _ _ (c .before .before .is-reference .ensures) (c .before .if1 .left) (c .covering .ensures _ knows)
+returns-2 c = λ e knows. known-entry e _ _ _ _ (c .before .before .is-function-reference .ensures) (c .before .if1 .left) (c .covering .ensures _ knows)
 
 pub known-function-spec : {M : Type 1} → statement M
 known-function-spec =

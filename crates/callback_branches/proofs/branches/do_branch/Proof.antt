@@ -8,7 +8,7 @@ returns : tie.Need-returns
 returns c = (c .mark-and-push .ensures (λ _. false) .fits, λ l e vis out f code i alike knows. branch-on e vis _ _ _ _ _ _ _ _ _ out (c .before .before .before .before .refers-to .ensures l e f code i alike knows) (c .before .before .before .if1 .taken) (c .mark-and-push .ensures vis))
 
 returns-2 : tie.Need-returns-2
-returns-2 c = (c .add-reference .ensures (λ _. false) .fits, λ l e vis out f code i alike knows. branch-refers e vis _ _ _ _ _ _ _ _ _ out (c .before .before .before .before .refers-to .ensures l e f code i alike knows) (c .before .before .before .if1 .left) (c .add-reference .ensures vis))
+returns-2 c = (c .add-function-reference .ensures (λ _. false) .fits, λ l e vis out f code i alike knows. branch-refers e vis _ _ _ _ _ _ _ _ _ out (c .before .before .before .before .refers-to .ensures l e f code i alike knows) (c .before .before .before .if1 .left) (c .add-function-reference .ensures vis))
 
 pub do-branch-spec : {M : Type 1} → statement M
 do-branch-spec =

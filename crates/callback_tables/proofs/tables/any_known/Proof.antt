@@ -1,5 +1,5 @@
 use borrow.Author.Needs.{needs}
-use Rattle.lists.specs.View.{view}
+use Rattle.function_slices.specs.View.{view}
 use Rattle.known.specs.Table.{Knows}
 use Rattle.rules.specs.Step as rules
 use Rattle.rules.specs.Choice.{any}
@@ -7,7 +7,7 @@ use lib.ListN.{take, drop}
 use native.Mathlib.Omega.{arith}
 use Prim.Native.Nat.{_≤_, _-_}
 use mathlib.Core.Path.{_≡_, refl, sym, _∙_}
-use Rattle.lists.proofs.Lookups.{any-next, any-here, any-end}
+use Rattle.function_slices.proofs.Lookups.{any-next, any-here, any-end}
 use Rattle.callback_tables.proofs.tables.any_known.Statement.{statement}
 use Rattle.callback_tables.proofs.tables.any_known.Tie as tie
 
@@ -22,16 +22,16 @@ loop-holds : tie.Need-loop-holds Inv-loop μ-loop
 loop-holds c = (omega arith, λ e knows q. refl)
 
 returns : tie.Need-returns Inv-loop μ-loop
-returns c = let a = c .before .before .before .before .before .before .before .before .before .args in λ e knows q. any-here (rules.is-known-function e (view (a .k .now) (a .v .now) (a .s))) (a .entries .now) (a .n) (c .before .before .before .before .before .before .before .before .before .pre .0) (c .before .before .before .before .loop .i) (omega arith) (sym (c .before .is-known-function .ensures e knows q) ∙ c .if1 .taken) (c .before .before .before .before .loop .inv .1 e knows q)
+returns c = let a = c .before .before .before .before .before .before .before .before .before .args in λ e knows q. any-here (rules.is-known-function e (view (a .keys .now) (a .values .now) (a .slices))) (a .entries .now) (a .len) (c .before .before .before .before .before .before .before .before .before .pre .0) (c .before .before .before .before .loop .i) (omega arith) (sym (c .before .is-known-function .ensures e knows q) ∙ c .if1 .taken) (c .before .before .before .before .loop .inv .1 e knows q)
 
 loop-less : tie.Need-loop-less Inv-loop μ-loop
 loop-less c = omega arith
 
 loop-again : tie.Need-loop-again Inv-loop μ-loop
-loop-again c = let a = c .before .before .before .before .before .before .before .before .before .args in (omega arith, λ e knows q. any-next (rules.is-known-function e (view (a .k .now) (a .v .now) (a .s))) (a .entries .now) (a .n) (c .before .before .before .before .before .before .before .before .before .pre .0) (c .before .before .before .before .loop .i) (omega arith) (sym (c .before .is-known-function .ensures e knows q) ∙ c .if1 .left) (c .before .before .before .before .loop .inv .1 e knows q))
+loop-again c = let a = c .before .before .before .before .before .before .before .before .before .args in (omega arith, λ e knows q. any-next (rules.is-known-function e (view (a .keys .now) (a .values .now) (a .slices))) (a .entries .now) (a .len) (c .before .before .before .before .before .before .before .before .before .pre .0) (c .before .before .before .before .loop .i) (omega arith) (sym (c .before .is-known-function .ensures e knows q) ∙ c .if1 .left) (c .before .before .before .before .loop .inv .1 e knows q))
 
 returns-2 : tie.Need-returns-2 Inv-loop μ-loop
-returns-2 c = let a = c .before .before .before .before .before .before .args in λ e knows q. any-end (rules.is-known-function e (view (a .k .now) (a .v .now) (a .s))) (a .entries .now) (a .n) (c .before .before .before .before .before .before .pre .0) (c .before .loop .i) (omega arith) (c .before .loop .inv .1 e knows q)
+returns-2 c = let a = c .before .before .before .before .before .before .args in λ e knows q. any-end (rules.is-known-function e (view (a .keys .now) (a .values .now) (a .slices))) (a .entries .now) (a .len) (c .before .before .before .before .before .before .pre .0) (c .before .loop .i) (omega arith) (c .before .loop .inv .1 e knows q)
 
 pub any-known-spec : {M : Type 1} → statement M
 any-known-spec =

@@ -6,19 +6,19 @@ use Rattle.callback_tables.proofs.tables.do_own_table.Statement.{statem
 use Rattle.callback_tables.proofs.tables.do_own_table.Tie as tie
 
 returns : tie.Need-returns
-returns c = λ e vis. tables-full e vis _ _ _ _ _ _ _ _ (c .before .before .before .wide .ensures .0) _ _ _ (c .before .before .set-table .ensures vis) (c .if1 .taken)
+returns c = λ e vis. tables-full e vis _ _ _ _ _ _ _ _ (c .before .before .before .wide .ensures .0) _ _ _ (c .before .before .set-jump-table-reference .ensures vis) (c .if1 .taken)
 
 mark-and-push-all-requires : tie.Need-mark-and-push-all-requires
-mark-and-push-all-requires c κs = (going-on (c .before .before .before .before .set-table .ensures (λ _. false)) (c .before .before .if1 .left), c .before .before .before .before .before .before .before .before .before .pre .1 .1)
+mark-and-push-all-requires c κs = (going-on (c .before .before .before .before .set-jump-table-reference .ensures (λ _. false)) (c .before .before .if1 .left), c .before .before .before .before .before .before .before .before .before .pre .1 .1)
 
 returns-2 : tie.Need-returns-2
-returns-2 c = λ e vis. blocks-full e vis _ _ _ _ _ _ _ _ (c .before .before .before .before .before .before .before .before .wide .ensures .0) _ _ _ (c .before .before .before .before .before .before .before .set-table .ensures vis) (c .before .before .before .before .before .if1 .left) _ _ _ (c .before .before .mark-and-push-all .ensures vis) (c .if2 .taken)
+returns-2 c = λ e vis. blocks-full e vis _ _ _ _ _ _ _ _ (c .before .before .before .before .before .before .before .before .wide .ensures .0) _ _ _ (c .before .before .before .before .before .before .before .set-jump-table-reference .ensures vis) (c .before .before .before .before .before .if1 .left) _ _ _ (c .before .before .mark-and-push-all .ensures vis) (c .if2 .taken)
 
-set-ways-requires : tie.Need-set-ways-requires
-set-ways-requires c κs = (going-on (c .before .before .before .before .mark-and-push-all .ensures (λ _. false)) (c .before .before .if2 .left), c .before .before .before .before .before .before .before .before .before .before .before .before .before .before .pre .1)
+set-branches-requires : tie.Need-set-branches-requires
+set-branches-requires c κs = (going-on (c .before .before .before .before .mark-and-push-all .ensures (λ _. false)) (c .before .before .if2 .left), c .before .before .before .before .before .before .before .before .before .before .before .before .before .before .pre .1)
 
 returns-3 : tie.Need-returns-3
-returns-3 c = λ e vis. table-owned e vis _ _ _ _ _ _ _ _ (c .before .before .before .before .before .before .before .before .before .before .before .wide .ensures .0) _ _ _ (c .before .before .before .before .before .before .before .before .before .before .set-table .ensures vis) (c .before .before .before .before .before .before .before .before .if1 .left) _ _ _ (c .before .before .before .before .before .mark-and-push-all .ensures vis) _ _ _ (c .before .before .before .if2 .left) (c .set-ways .ensures vis)
+returns-3 c = λ e vis. table-owned e vis _ _ _ _ _ _ _ _ (c .before .before .before .before .before .before .before .before .before .before .before .wide .ensures .0) _ _ _ (c .before .before .before .before .before .before .before .before .before .before .set-jump-table-reference .ensures vis) (c .before .before .before .before .before .before .before .before .if1 .left) _ _ _ (c .before .before .before .before .before .mark-and-push-all .ensures vis) _ _ _ (c .before .before .before .if2 .left) (c .set-branches .ensures vis)
 
 pub do-own-table-spec : {M : Type 1} → statement M
 do-own-table-spec =
@@ -29,5 +29,5 @@ do-own-table-spec =
     returns
     mark-and-push-all-requires
     returns-2
-    set-ways-requires
+    set-branches-requires
     returns-3)

@@ -10,7 +10,7 @@ returns : tie.Need-returns
 returns c = λ e vis alike knows. takes-own e vis _ _ _ _ _ _ _ _ _ _ (c .before .before .before .before .is-own-table .ensures .1 e alike knows) (c .before .before .before .if1 .taken) (c .do-own-table .ensures e vis)
 
 returns-2 : tie.Need-returns-2
-returns-2 c = λ e vis alike knows. takes-possible e vis _ _ _ _ _ _ _ _ _ _ (c .before .before .before .before .is-own-table .ensures .1 e alike knows) (c .before .before .before .if1 .left) (c .add-all-possible .ensures vis)
+returns-2 c = λ e vis alike knows. takes-possible e vis _ _ _ _ _ _ _ _ _ _ (c .before .before .before .before .is-own-table .ensures .1 e alike knows) (c .before .before .before .if1 .left) (c .add-all-possible-blocks .ensures vis)
 
 pub take-table-spec : {M : Type 1} → statement M
 take-table-spec =

@@ -1,4 +1,4 @@
-use Rattle.lists.specs.View.{part}
+use Rattle.function_slices.specs.View.{part}
 use Rattle.entries.proofs.Lookups.{find-fits}
 use Rattle.cfa_finalize.proofs.Loads.{ready-below, at-lists}
 use Rattle.cfa_finalize.proofs.Finals.{good-of}
@@ -8,7 +8,7 @@ use Rattle.cfa_finalize.proofs.settling.load_at.Tie as tie
 
 find-requires : tie.Need-find-requires
 unfolding part
-find-requires c κs = let a = c .before .before .before .before .args in find-fits (a .n) (a .known .now) (c .before .before .before .before .pre .holds .kept)
+find-requires c κs = let a = c .before .before .before .before .args in find-fits (a .count) (a .known .now) (c .before .before .before .before .pre .holds .kept)
 
 load-requires : tie.Need-load-requires
 unfolding part

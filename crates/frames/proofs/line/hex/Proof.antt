@@ -37,7 +37,7 @@ loop-again : tie.Need-loop-again Inv-loop μ-loop
 loop-again c = (omega arith, read-next _ _ _ _ _ _ (c .before .before .before .before .before .pre .0) (c .before .before .loop-test .taken) (c .digit-value .ensures .0) (c .before .before .before .loop .inv .1))
 
 returns : tie.Need-returns Inv-loop μ-loop
-returns c = let e : c .before .loop .i ≡ c .before .before .before .args .n = omega arith in rw e at (c .before .loop .inv .1 .same)
+returns c = let e : c .before .loop .i ≡ c .before .before .before .args .count = omega arith in rw e at (c .before .loop .inv .1 .same)
 
 pub hex-spec : {M : Type 1} → statement M
 hex-spec =

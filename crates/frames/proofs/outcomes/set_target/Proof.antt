@@ -9,13 +9,13 @@ use Rattle.frames.proofs.outcomes.set_target.Statement.{statement}
 use Rattle.frames.proofs.outcomes.set_target.Tie as tie
 
 set-back-requires : tie.Need-set-back-requires
-set-back-requires c κs = let a = c .before .before .before .before .before .args in let h : 6 ≤ a .n = word-there (a .n) (a .outcomes .now) (c .before .before .before .before .before .pre) 4 (sym (c .before .if1 .taken) ∙ c .before .before .last-is .ensures) in (omega arith, omega arith, omega arith)
+set-back-requires c κs = let a = c .before .before .before .before .before .args in let h : 6 ≤ a .count = word-there (a .count) (a .outcomes .now) (c .before .before .before .before .before .pre) 4 (sym (c .before .if1 .taken) ∙ c .before .before .last-is .ensures) in (omega arith, omega arith, omega arith)
 
 returns : tie.Need-returns
-returns c = let a = c .before .before .before .before .before .before .before .before .args in told-now (a .n) (a .outcomes .now) (c .before .before .before .before .before .before .before .before .pre) 4 (set-back (take (a .n) (a .outcomes .now)) 4 (a .a)) _ (sym (c .before .before .before .before .if1 .taken) ∙ c .before .before .before .before .before .last-is .ensures) (c .before .before .set-back .ensures)
+returns c = let a = c .before .before .before .before .before .before .before .before .args in told-now (a .count) (a .outcomes .now) (c .before .before .before .before .before .before .before .before .pre) 4 (set-back (take (a .count) (a .outcomes .now)) 4 (a .a)) _ (sym (c .before .before .before .before .if1 .taken) ∙ c .before .before .before .before .before .last-is .ensures) (c .before .before .set-back .ensures)
 
 returns-2 : tie.Need-returns-2
-returns-2 c = let a = c .before .before .before .before .args in told-none (a .n) (a .outcomes .now) (c .before .before .before .before .pre) 4 (set-back (take (a .n) (a .outcomes .now)) 4 (a .a)) (sym (c .if1 .left) ∙ c .before .last-is .ensures)
+returns-2 c = let a = c .before .before .before .before .args in told-none (a .count) (a .outcomes .now) (c .before .before .before .before .pre) 4 (set-back (take (a .count) (a .outcomes .now)) 4 (a .a)) (sym (c .if1 .left) ∙ c .before .last-is .ensures)
 
 pub set-target-spec : {M : Type 1} → statement M
 set-target-spec =

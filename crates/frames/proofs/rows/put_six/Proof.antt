@@ -6,7 +6,7 @@ use Rattle.frames.proofs.rows.put_six.Statement.{statement}
 use Rattle.frames.proofs.rows.put_six.Tie as tie
 
 returns : tie.Need-returns
-returns c = let a = c .before .before .before .before .before .before .before .before .before .args in put-both (a .n) _ (a .a ∷ a .b ∷ []) (0 ∷ 0 ∷ 0 ∷ 0 ∷ []) _ _ _ refl (c .before .before .before .before .before .before .put-two .ensures) (c .before .before .put-four .ensures)
+returns c = let a = c .before .before .before .before .before .before .before .before .before .args in put-both (a .count) _ (a .a ∷ a .b ∷ []) (0 ∷ 0 ∷ 0 ∷ 0 ∷ []) _ _ _ refl (c .before .before .before .before .before .before .put-two .ensures) (c .before .before .put-four .ensures)
 
 pub put-six-spec : {M : Type 1} → statement M
 put-six-spec =

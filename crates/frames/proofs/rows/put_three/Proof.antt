@@ -6,7 +6,7 @@ use Rattle.frames.proofs.rows.put_three.Statement.{statement}
 use Rattle.frames.proofs.rows.put_three.Tie as tie
 
 returns : tie.Need-returns
-returns c = let a = c .before .before .before .before .before .before .before .before .before .args in put-both (a .n) _ (a .a ∷ []) (a .b ∷ a .c ∷ []) _ _ _ refl (c .before .before .before .before .before .before .put .ensures) (c .before .before .put-two .ensures)
+returns c = let a = c .before .before .before .before .before .before .before .before .before .args in put-both (a .count) _ (a .a ∷ []) (a .b ∷ a .c ∷ []) _ _ _ refl (c .before .before .before .before .before .before .put .ensures) (c .before .before .put-two .ensures)
 
 pub put-three-spec : {M : Type 1} → statement M
 put-three-spec = tie.close (tie.spec (λ c κs. search needs) (λ c. search needs) (λ c κs. search needs) (λ c. search needs) returns)

@@ -6,7 +6,7 @@ use Rattle.frames.proofs.rows.put_two.Statement.{statement}
 use Rattle.frames.proofs.rows.put_two.Tie as tie
 
 returns : tie.Need-returns
-returns c = let a = c .before .before .before .before .before .before .before .before .before .args in put-both (a .n) _ (a .a ∷ []) (a .b ∷ []) _ _ _ refl (c .before .before .before .before .before .before .put .ensures) (c .before .before .put2 .ensures)
+returns c = let a = c .before .before .before .before .before .before .before .before .before .args in put-both (a .count) _ (a .a ∷ []) (a .b ∷ []) _ _ _ refl (c .before .before .before .before .before .before .put .ensures) (c .before .before .put2 .ensures)
 
 pub put-two-spec : {M : Type 1} → statement M
 put-two-spec = tie.close (tie.spec (λ c κs. search needs) (λ c. search needs) (λ c κs. search needs) (λ c. search needs) returns)

@@ -4,13 +4,13 @@ use Rattle.frames.proofs.words.add_word.Statement.{statement}
 use Rattle.frames.proofs.words.add_word.Tie as tie
 
 returns : tie.Need-returns
-returns c = let a = c .before .before .before .before .before .args in word-large (a .n) (a .m) (a .w) _ (a .sections .now) (a .bytes .now) (c .before .before .before .before .before .pre .1) (c .before .before .before .before .before .pre .2) (c .before .back .ensures) (c .if1 .taken)
+returns c = let a = c .before .before .before .before .before .args in word-large (a .count) (a .m) (a .w) _ (a .sections .now) (a .bytes .now) (c .before .before .before .before .before .pre .1) (c .before .before .before .before .before .pre .2) (c .before .back .ensures) (c .if1 .taken)
 
 returns-2 : tie.Need-returns-2
-returns-2 c = let a = c .before .before .before .before .before .before .args in word-full (a .n) (a .m) (a .w) _ (a .sections .now) (a .bytes .now) (c .before .before .before .before .before .before .pre .1) (c .before .before .before .before .before .before .pre .2) (c .before .before .back .ensures) (c .before .if1 .left) (c .if2 .taken)
+returns-2 c = let a = c .before .before .before .before .before .before .args in word-full (a .count) (a .m) (a .w) _ (a .sections .now) (a .bytes .now) (c .before .before .before .before .before .before .pre .1) (c .before .before .before .before .before .before .pre .2) (c .before .before .back .ensures) (c .before .if1 .left) (c .if2 .taken)
 
 returns-3 : tie.Need-returns-3
-returns-3 c = let a = c .before .before .before .before .before .before .before .before .before .before .before .before .before .before .args in word-put (a .n) (a .m) (a .w) _ (a .sections .now) (a .bytes .now) (c .before .before .before .before .before .before .before .before .before .before .before .before .before .before .pre .1) (c .before .before .before .before .before .before .before .before .before .before .before .before .before .before .pre .2) (c .before .before .before .before .before .before .before .before .before .before .back .ensures) (c .before .before .before .before .before .before .before .before .before .if1 .left) (c .before .before .before .before .before .before .before .before .if2 .left) _ _ (c .before .before .before .before .before .before .put-word .ensures) (c .before .before .set-back .ensures)
+returns-3 c = let a = c .before .before .before .before .before .before .before .before .before .before .before .before .before .before .args in word-put (a .count) (a .m) (a .w) _ (a .sections .now) (a .bytes .now) (c .before .before .before .before .before .before .before .before .before .before .before .before .before .before .pre .1) (c .before .before .before .before .before .before .before .before .before .before .before .before .before .before .pre .2) (c .before .before .before .before .before .before .before .before .before .before .back .ensures) (c .before .before .before .before .before .before .before .before .before .if1 .left) (c .before .before .before .before .before .before .before .before .if2 .left) _ _ (c .before .before .before .before .before .before .put-word .ensures) (c .before .before .set-back .ensures)
 
 pub add-word-spec : {M : Type 1} → statement M
 add-word-spec =

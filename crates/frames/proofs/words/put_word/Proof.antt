@@ -4,16 +4,16 @@ use Rattle.frames.proofs.words.put_word.Statement.{statement}
 use Rattle.frames.proofs.words.put_word.Tie as tie
 
 slice-write-bytes-2 : tie.Need-slice-write-bytes-2
-slice-write-bytes-2 c = room-2 (c .args .n) (c .args .w) (c .args .bytes .now) (c .pre)
+slice-write-bytes-2 c = room-2 (c .args .count) (c .args .w) (c .args .bytes .now) (c .pre)
 
 slice-write-bytes-3 : tie.Need-slice-write-bytes-3
-slice-write-bytes-3 c = room-3 (c .args .n) (c .args .w) (c .args .bytes .now) (c .pre)
+slice-write-bytes-3 c = room-3 (c .args .count) (c .args .w) (c .args .bytes .now) (c .pre)
 
 slice-write-bytes-4 : tie.Need-slice-write-bytes-4
-slice-write-bytes-4 c = room-4 (c .args .n) (c .args .w) (c .args .bytes .now) (c .pre)
+slice-write-bytes-4 c = room-4 (c .args .count) (c .args .w) (c .args .bytes .now) (c .pre)
 
 returns : tie.Need-returns
-returns c = four-bytes (c .args .n) (c .args .w) (c .args .bytes .now) (c .pre)
+returns c = four-bytes (c .args .count) (c .args .w) (c .args .bytes .now) (c .pre)
 
 pub put-word-spec : {M : Type 1} → statement M
 put-word-spec =

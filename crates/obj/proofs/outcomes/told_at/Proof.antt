@@ -6,7 +6,7 @@ use Rattle.obj.proofs.outcomes.told_at.Statement.{statement}
 use Rattle.obj.proofs.outcomes.told_at.Tie as tie
 
 returns : tie.Need-returns
-returns c = let a = c .before .before .before .before .before .args in told-is _ (a .code) (a .k) _ _ (c .before .before .row-at .result) (c .before .outcome-of .result) refl refl (c .before .before .row-at .ensures) (c .before .outcome-of .ensures)
+returns c = let a = c .before .before .before .before .before .args in told-is _ (a .code) (a .key) _ _ (c .before .before .row-at .result) (c .before .outcome-of .result) refl refl (c .before .before .row-at .ensures) (c .before .outcome-of .ensures)
 
 pub told-at-spec : {M : Type 1} → statement M
 told-at-spec =

@@ -13,10 +13,10 @@ bit-at : (n : ℕ) → n < 32 → 1 * 2 ^ n % 4294967296 ≡ 2 ^ n
 bit-at n h = rw one-mul (mod-eq-of-lt (pow-lt h))
 
 sub-result : tie.Need-sub-result
-sub-result c = rw (bit-at _ (c .pre .1)) (pow-pos (c .args .n))
+sub-result c = rw (bit-at _ (c .pre .1)) (pow-pos (c .args .number))
 
 returns : tie.Need-returns
-returns c = rw (bit-at _ (c .pre .1)) (and-mask _ (c .args .n))
+returns c = rw (bit-at _ (c .pre .1)) (and-mask _ (c .args .number))
 
 pub field-spec : {M : Type 1} → statement M
 field-spec = tie.close (tie.spec (λ c. search needs) (λ c. search needs) sub-result returns)

@@ -7,7 +7,7 @@ use Rattle.ppc_registers.proofs.registers.bit_of.Statement.{statement}
 use Rattle.ppc_registers.proofs.registers.bit_of.Tie as tie
 
 returns : tie.Need-returns
-returns c = let e : 1 * c .args .k ≡ c .args .k = omega arith in rw e (search needs)
+returns c = let e : 1 * c .args .index ≡ c .args .index = omega arith in rw e (search needs)
 
 pub bit-of-spec : {M : Type 1} → statement M
 bit-of-spec = tie.close (tie.spec (λ c. search needs) (λ c. search needs) returns)
