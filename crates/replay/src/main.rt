@@ -120,7 +120,10 @@ fn replay_more(text: &mut [u8], out: &mut Out, count: usize) -> Read
 {
     let m = fill(text, count);
     if m == count {
-        return Read { count, more: false };
+        return Read {
+            n: count,
+            more: false,
+        };
     }
     let at = answer_ended(&text[0..m], out);
     let rest = keep_rest(text, at, m);
