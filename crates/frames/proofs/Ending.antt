@@ -11,7 +11,7 @@ use lib.Seq.{length-take-le, getD-take, take-set-lt}
 use borrow.Author.Tests.{leb-true, le-leb, lt-leb, eq-eqb, ne-eqb}
 use Rattle.rules.proofs.Tests.{and-left}
 use Rattle.rules.specs.Choice.{if}
-use Rattle.frames.specs.LastRows.{back, set-back, Now, last-kind, last-is, word-bytes, PutWord, add-word, both, WordAdded, set-target, set-jump-table-reference, with-branch, way-of, add-branch, told, Told}
+use Rattle.frames.specs.LastRows.{back, set-back, Now, last-kind, last-is, word-bytes, PutWord, add-word, both, WordAdded, set-target, set-table, with-branch, way-of, add-branch, told, Told}
 use Rattle.frames.specs.Rows.{Put}
 use Rattle.frames.proofs.Putting.{put-one, put-both}
 

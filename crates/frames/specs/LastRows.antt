@@ -65,8 +65,8 @@ abbrev pub set-target : ℕ → List ℕ → Option (List ℕ)
 set-target a o = if (last-is 4 o) (some (set-back o 4 a)) none
 
 -- its jump table
-abbrev pub set-jump-table-reference : ℕ → ℕ → List ℕ → Option (List ℕ)
-set-jump-table-reference a s o = if (last-is 5 o) (some (set-back (set-back o 4 a) 3 s)) none
+abbrev pub set-table : ℕ → ℕ → List ℕ → Option (List ℕ)
+set-table a s o = if (last-is 5 o) (some (set-back (set-back o 4 a) 3 s)) none
 
 -- one branch more; with a third the row breaks its rule: a way that is none
 abbrev pub with-branch : ℕ → ℕ → List ℕ → List ℕ

@@ -2,7 +2,7 @@
 ghost use mathlib.Core.Path.{_≡_};
 ghost use Prim.Native.Nat.{_+_, _≤_};
 ghost use lib.ListN.{length, take};
-ghost use Rattle.frames.specs.LastRows.{Told, Now, last-is, set-target, set-jump-table-reference, with-branch, add-branch};
+ghost use Rattle.frames.specs.LastRows.{Told, Now, last-is, set-target, set-table, with-branch, add-branch};
 ghost use Rattle.frames.specs.LastRows as ends;
 use crate::words::back;
 use crate::words::set_back;
@@ -34,11 +34,11 @@ pub fn set_target(outcomes: &mut [u32], count: usize, a: u32) -> bool
 }
 
 // The last code word's jump table; false where it has none.
-pub fn set_jump_table_reference(outcomes: &mut [u32], count: usize, a: u32, size: u32) -> bool
+pub fn set_table(outcomes: &mut [u32], count: usize, a: u32, size: u32) -> bool
     requires { ⌜ count ≤ length (now outcomes) ⌝ }
     ensures { λ r.
         ⌜ Told count (now (outcomes .entry)) (now (outcomes .exit)) r
-        (set-jump-table-reference a size (take count (now (outcomes .entry)))) ⌝ }
+        (set-table a size (take count (now (outcomes .entry)))) ⌝ }
 {
     if last_is(outcomes, count, 5) {
         set_pair(outcomes, count, 4, 3, a, size);

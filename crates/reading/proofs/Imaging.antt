@@ -16,7 +16,7 @@ use Rattle.frames.specs.declared.line.Frame.{Frame}
 use Rattle.frames.specs.declared.rows.Count.{Count}
 use Rattle.frames.specs.Rows.{add-row, counted, Added}
 use Rattle.frames.specs.Struct.{of-kind, frame-of}
-use Rattle.frames.specs.LastRows.{last-kind, add-word, both, WordAdded, set-target, set-jump-table-reference, add-branch, told, Told}
+use Rattle.frames.specs.LastRows.{last-kind, add-word, both, WordAdded, set-target, set-table, add-branch, told, Told}
 use Rattle.frames.proofs.Ending.{no-section}
 use Rattle.reading.specs.PutFrame.{onward, put-word, put-outcome, put-frame, put-line, in-both, in-outcomes, in-sections}
 use Rattle.reading.specs.View.{lists, view, room, WordPut, ImagePut, ToldPut}
@@ -173,7 +173,7 @@ module _ (x : Frame) (r : Reading) (o o′ : List ℕ) (t : Bool) where
             λ s b f j k e. rw h (onward-if (in-outcomes (lists r s b o f j k e)) t (take (r .outcomes) o′) ∙ ap (onward (in-outcomes (lists r s b o f j k e))) (a .same));
       }
 
-  pub told-table : x .kind ≡ 4 → Told (r .outcomes) o o′ t (set-jump-table-reference (x .first) (x .second) (take (r .outcomes) o)) → ToldPut x r record { ok = t; sections = r .sections; bytes = r .bytes; outcomes = r .outcomes; functions = r .functions; objects = r .objects; skips = r .skips; entry = r .entry } o o′
+  pub told-table : x .kind ≡ 4 → Told (r .outcomes) o o′ t (set-table (x .first) (x .second) (take (r .outcomes) o)) → ToldPut x r record { ok = t; sections = r .sections; bytes = r .bytes; outcomes = r .outcomes; functions = r .functions; objects = r .objects; skips = r .skips; entry = r .entry } o o′
   unfolding view told put-line put-frame of-kind if
   told-table h a =
       record {

@@ -14,7 +14,7 @@ use Rattle.rules.specs.Choice.{if}
 use Rattle.obj_image.specs.Lent.{Lent, lent}
 use Rattle.frames.specs.Frames.{Frame, section, word, code-word, target, table, branch, function, object, skip, entry}
 use Rattle.frames.specs.Rows.{add-row}
-use Rattle.frames.specs.LastRows.{last-kind, add-word, set-target, set-jump-table-reference, add-branch}
+use Rattle.frames.specs.LastRows.{last-kind, add-word, set-target, set-table, add-branch}
 
 -- how long each lent list is
 pub record Room : Type 0 where
@@ -72,7 +72,7 @@ put-frame m (section k b s) l = onward (in-sections l) (add-row 32 (m .sections)
 put-frame m (word w) l = put-word m 2 w l
 put-frame m (code-word w k mark) l = put-outcome m k mark (put-word m 1 w l)
 put-frame m (target a) l = onward (in-outcomes l) (set-target a (l .outcomes))
-put-frame m (table a s) l = onward (in-outcomes l) (set-jump-table-reference a s (l .outcomes))
+put-frame m (table a s) l = onward (in-outcomes l) (set-table a s (l .outcomes))
 put-frame m (branch k t a) l = onward (in-outcomes l) (add-branch k t a (l .outcomes))
 put-frame m (function a s k) l = onward (in-functions l) (add-row 3072 (m .functions) (a ∷ s ∷ k ∷ []) (l .functions))
 put-frame m (object a s k) l = onward (in-objects l) (add-row 3072 (m .objects) (a ∷ s ∷ k ∷ []) (l .objects))

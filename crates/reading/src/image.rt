@@ -73,7 +73,7 @@ fn put_told(r: Reading, outcomes: &mut [u32; 6144], f: Frame) -> Reading
         return q;
     }
     if f.kind == 4 {
-        q.ok = frames::outcomes::set_jump_table_reference(outcomes, r.outcomes, f.first, f.second);
+        q.ok = frames::outcomes::set_table(outcomes, r.outcomes, f.first, f.second);
         return q;
     }
     q.ok = frames::outcomes::add_branch(outcomes, r.outcomes, f.first, f.second, f.third);

@@ -10,7 +10,7 @@ returns : tie.Need-returns
 returns c = let a = c .before .before .before .before .args in told-target (a .f) (a .r) (a .outcomes .now) _ _ (c .before .before .if1 .taken) (c .set-target .ensures)
 
 returns-2 : tie.Need-returns-2
-returns-2 c = let a = c .before .before .before .before .before .before .args in told-table (a .f) (a .r) (a .outcomes .now) _ _ (c .before .before .if2 .taken) (c .set-jump-table-reference .ensures)
+returns-2 c = let a = c .before .before .before .before .before .before .args in told-table (a .f) (a .r) (a .outcomes .now) _ _ (c .before .before .if2 .taken) (c .set-table .ensures)
 
 add-branch-requires : tie.Need-add-branch-requires
 add-branch-requires c κs = let a = c .before .before .before .before .before .args in let five : a .f .kind ≡ 5 = omega arith in let h = c .before .before .before .before .before .pre .1 five in (c .before .before .before .before .before .pre .0 .3, h .0, h .1)

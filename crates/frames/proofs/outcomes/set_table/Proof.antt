@@ -5,8 +5,8 @@ use lib.ListN.{take}
 use mathlib.Core.Path.{sym, _∙_}
 use Rattle.frames.proofs.Ending.{told-now, told-none, word-there}
 use borrow.Author.Needs.{needs}
-use Rattle.frames.proofs.outcomes.set_jump_table_reference.Statement.{statement}
-use Rattle.frames.proofs.outcomes.set_jump_table_reference.Tie as tie
+use Rattle.frames.proofs.outcomes.set_table.Statement.{statement}
+use Rattle.frames.proofs.outcomes.set_table.Tie as tie
 
 set-pair-requires : tie.Need-set-pair-requires
 set-pair-requires c κs = let a = c .before .before .before .before .before .args in let h : 6 ≤ a .count = word-there (a .count) (a .outcomes .now) (c .before .before .before .before .before .pre) 5 (sym (c .before .if1 .taken) ∙ c .before .before .last-is .ensures) in (omega arith, omega arith, omega arith, omega arith, omega arith)
@@ -17,7 +17,7 @@ returns c = let a = c .before .before .before .before .before .before .before .b
 returns-2 : tie.Need-returns-2
 returns-2 c = let a = c .before .before .before .before .args in told-none (a .count) (a .outcomes .now) (c .before .before .before .before .pre) 5 (set-back (set-back (take (a .count) (a .outcomes .now)) 4 (a .a)) 3 (a .size)) (sym (c .if1 .left) ∙ c .before .last-is .ensures)
 
-pub set-jump-table-reference-spec : {M : Type 1} → statement M
-set-jump-table-reference-spec =
+pub set-table-spec : {M : Type 1} → statement M
+set-table-spec =
     tie.close
     (tie.spec (λ c κs. search needs) set-pair-requires (λ c. search needs) returns (λ c. search needs) returns-2)
