@@ -11,7 +11,7 @@ use Rattle.rules.specs.Map.{Capacity, process-functions, last-rounds, all-final
 use Rattle.rules.specs.Accounted.{Accounted}
 use Rattle.obj.specs.Lent.{Lent}
 use Rattle.obj.specs.declared.sections.Code.{Code}
-use Rattle.cfa_process.specs.Displayed.{Displays}
+use Rattle.cfa_rounds.specs.Displayed.{Displays}
 use Rattle.entries.specs.Table.{entry-numbers, flat, AllRight, Good}
 use Rattle.runs.specs.Runs.{padded}
 use Rattle.results.specs.Rows.{result-row, map-of}

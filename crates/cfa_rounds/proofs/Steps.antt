@@ -20,20 +20,20 @@ use Rattle.obj.specs.Lent.{Lent, given, image}
 use Rattle.obj.specs.declared.sections.Code.{Code}
 use Rattle.obj.specs.Sections.{InBytes}
 use Rattle.obj_rows.specs.Skips.{Ascending}
-use Rattle.gaps.specs.Looks.{Looks}
+use Rattle.cfa_rounds.specs.Looks.{Looks}
 use Rattle.run.proofs.Ready.{code-in}
 use Rattle.entries.specs.Table.{Holds, Good, Told}
-use Rattle.cfa_process.specs.Shown.{Shown}
-use Rattle.cfa_process.proofs.Keeping.{within, ascends}
-use Rattle.cfa_process.proofs.Walked.{shown}
-use Rattle.cfa_finalize.proofs.Settles.{lends}
-use Rattle.cfa_finalize.specs.Near.{Near}
-use Rattle.cfa_finalize.proofs.Lows.{near-of}
-use Rattle.cfa_entries.specs.Adding.{Entered}
-use Rattle.cfa_entries.specs.declared.Entries.{Entries}
-use Rattle.cfa_process.specs.Displayed.{Displays, Displayed}
-use Rattle.cfa_detect.specs.Behind.{Rounded, IsRound}
-use Rattle.cfa_detect.specs.declared.Detected.{Detected}
+use Rattle.cfa_rounds.specs.Shown.{Shown}
+use Rattle.cfa_rounds.proofs.Storing.{within, ascends}
+use Rattle.cfa_rounds.proofs.Walked.{shown}
+use Rattle.cfa_rounds.proofs.Settles.{lends}
+use Rattle.cfa_rounds.specs.Near.{Near}
+use Rattle.cfa_rounds.proofs.Lows.{near-of}
+use Rattle.cfa_rounds.specs.Adding.{Entered}
+use Rattle.cfa_rounds.specs.declared.adding.Entries.{Entries}
+use Rattle.cfa_rounds.specs.Displayed.{Displays, Displayed}
+use Rattle.cfa_rounds.specs.Behind.{Rounded, IsRound}
+use Rattle.cfa_rounds.specs.declared.new_functions.Detected.{Detected}
 use Rattle.cfa_rounds.specs.Ready.{Ready}
 use Rattle.cfa_rounds.specs.Turns.{turn-of, after, next-key, no-entry, take-round, turn, Turned, IsTurn}
 

@@ -22,8 +22,8 @@ use Rattle.obj.specs.declared.sections.Code.{Code}
 use Rattle.entries.specs.Table.{Holds, entries-of, capacity}
 use Rattle.entries.proofs.Reading.{entries-are}
 use Rattle.entries.proofs.Rows.{count-is}
-use Rattle.cfa_entries.specs.Adding.{Entered}
-use Rattle.cfa_process.specs.Displayed.{Displays}
+use Rattle.cfa_rounds.specs.Adding.{Entered}
+use Rattle.cfa_rounds.specs.Displayed.{Displays}
 use Rattle.cfa_rounds.specs.declared.Run.{Run}
 use Rattle.cfa_rounds.specs.Ready.{Sane, Ready, Fit, Running}
 use Rattle.cfa_rounds.specs.Turns.{Turn, turn-of, after, next-key, no-entry, take-round, turn, turn-with, rest, rest-with, Turned, IsTurn}

@@ -12,7 +12,7 @@ use Rattle.rules.proofs.Placed.{Table}
 use Rattle.obj.specs.Lent.{Lent, image}
 use Rattle.obj.specs.declared.sections.Code.{Code}
 use Rattle.entries.specs.Table.{Holds}
-use Rattle.cfa_process.specs.Displayed.{Displays}
+use Rattle.cfa_rounds.specs.Displayed.{Displays}
 use Rattle.cfa_rounds.specs.declared.Run.{Run}
 use Rattle.cfa_rounds.specs.Turns.{Turn, turn-of}
 

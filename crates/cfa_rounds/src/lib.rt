@@ -1,5 +1,11 @@
 // The turns of AnalyzerState::detect_functions: each walks an entry, finalizes what it can, or finds new entries.
+pub mod adding;
+mod finalizing;
 pub mod first;
+mod gaps;
+mod new_functions;
+mod process;
+mod symbols;
 
 ghost use mathlib.Core.Path.{_≡_};
 ghost use mathlib.Core.List.{List};
@@ -11,13 +17,13 @@ ghost use Rattle.rules.specs.Known.{Entry};
 ghost use Rattle.rules.specs.Map as rules;
 ghost use Rattle.obj.specs.Lent.{Lent, image};
 ghost use Rattle.entries.specs.Table.{Holds, Good, capacity};
-ghost use Rattle.cfa_entries.specs.Adding.{Entered};
-ghost use Rattle.cfa_process.specs.Displayed.{Displays, Displayed};
-ghost use Rattle.cfa_detect.specs.Behind.{IsRound};
+ghost use Rattle.cfa_rounds.specs.Adding.{Entered};
+ghost use Rattle.cfa_rounds.specs.Displayed.{Displays, Displayed};
+ghost use Rattle.cfa_rounds.specs.Behind.{IsRound};
 ghost use Rattle.cfa_rounds.specs.Ready.{Sane, Ready, Fit, Running};
 ghost use Rattle.cfa_rounds.specs.Turns.{turn-of, next-key, no-entry, take-round, turn, rest, IsTurn};
-use cfa_detect::Detected;
-use cfa_entries::Entries;
+use crate::new_functions::Detected;
+use crate::adding::Entries;
 use function_slices::places;
 
 // A run between two turns: how many entries there are, how many of those known beforehand were walked, what comes next, and the fault that
@@ -59,7 +65,7 @@ fn no_entry(
         (now (infos .exit)) (now (lists .exit)) r) ⌝ }
 {
     if stage == 1 {
-        return cfa_detect::detect_new_functions(
+        return crate::new_functions::detect_new_functions(
             bytes,
             skips,
             known,
@@ -70,7 +76,7 @@ fn no_entry(
             room,
         );
     }
-    cfa_finalize::finalize_functions(
+    crate::finalizing::finalize_functions(
         sections,
         bytes,
         outcomes,
@@ -153,7 +159,7 @@ fn take_round(
             stage,
         );
     }
-    let r = cfa_process::process_function_at(
+    let r = crate::process::process_function_at(
         sections,
         bytes,
         outcomes,
@@ -225,7 +231,7 @@ pub fn turn(
 {
     let at = run.at;
     if at < given.len() {
-        let r = cfa_process::process_function_at(
+        let r = crate::process::process_function_at(
             sections,
             bytes,
             outcomes,

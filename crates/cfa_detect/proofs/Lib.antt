@@ -1,3 +1,0 @@
-pub mod Adds
-pub mod Search
-pub mod Rounds

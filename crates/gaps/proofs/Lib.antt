@@ -1,2 +1,0 @@
-pub mod Alignment
-pub mod Behind
