@@ -25,7 +25,7 @@ use Rattle.function_slices.specs.View.{view}
 use Rattle.walk.specs.State.{walk-of, place-of, Is}
 use Rattle.walk.specs.declared.Walk.{Walk}
 use Rattle.callback.specs.Lends.{Of}
-use Rattle.callback_around.specs.declared.around.Around.{Around}
+use Rattle.callback.specs.declared.around.Around.{Around}
 use Rattle.callback.proofs.Lends.{word-of, image-passed, sound}
 use Rattle.analyze.specs.Analysis.{Walks}
 use Rattle.passes.proofs.Loops.{sound-of, aimed-of}

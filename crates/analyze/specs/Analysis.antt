@@ -11,7 +11,7 @@ use Rattle.function_slices.specs.View.{view, Fit}
 use Rattle.function_slices.specs.declared.Small.{Small}
 use Rattle.walk.specs.declared.Walk.{Walk}
 use Rattle.callback.specs.Lends.{Of}
-use Rattle.callback_around.specs.declared.around.Around.{Around}
+use Rattle.callback.specs.declared.around.Around.{Around}
 use Rattle.analyze.specs.declared.Analyzed.{Analyzed}
 
 -- the bytes are those of an image that is walked

@@ -38,9 +38,9 @@ use Rattle.known.specs.Table.{Kept, Knows}
 use Rattle.function_slices.specs.View.{view, Fit}
 use Rattle.function_slices.specs.declared.Small.{Small}
 use Rattle.walk.specs.State.{Low, Listed}
-use Rattle.callback_around.specs.Around.{IsCodeOf, Alike, Inside}
+use Rattle.callback.specs.Around.{IsCodeOf, Alike, Inside}
 use Rattle.callback.specs.Lends.{Of, Lends, At, Aims}
-use Rattle.callback_around.specs.declared.around.Around.{Around}
+use Rattle.callback.specs.declared.around.Around.{Around}
 
 -- ---- jump tables lie in sections
 

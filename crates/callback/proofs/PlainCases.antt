@@ -23,7 +23,7 @@ use Rattle.function_slices.specs.declared.Small.{Small}
 use Rattle.walk.specs.State.{walk-of, with-small, with-place, faulting, Going, Is, Listed}
 use Rattle.walk.specs.declared.Walk.{Walk}
 use Rattle.walk.proofs.Answers.{is-fault}
-use Rattle.callback_around.specs.declared.around.Around.{Around}
+use Rattle.callback.specs.declared.around.Around.{Around}
 use Rattle.callback.specs.Noted.{plain, noted, stops, stopped-by, Noting, Notes, IsNoted}
 use Rattle.callback.specs.declared.words.Noted.{Noted}
 use Rattle.callback.specs.Lends.{Of, At, Meets}

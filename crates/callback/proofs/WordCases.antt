@@ -35,8 +35,8 @@ use Rattle.executor.proofs.Pending.{pending-same}
 use Rattle.callback.specs.AfterBlock.{after-block}
 use Rattle.callback.specs.Noted.{stops, stopped-by}
 use Rattle.callback.specs.Lends.{Of, kind}
-use Rattle.callback_around.specs.declared.around.Around.{Around}
-use Rattle.callback_around.proofs.Places.{placed-same, placed-nowhere}
+use Rattle.callback.specs.declared.around.Around.{Around}
+use Rattle.callback.proofs.Places.{placed-same, placed-nowhere}
 use Rattle.function_slices.specs.Places.{AT-PENDING}
 
 -- ---- returns noted

@@ -16,7 +16,7 @@ use Rattle.obj.specs.declared.outcomes.Outcome.{Outcome}
 use Rattle.obj.specs.declared.outcomes.Outcome.the-variants.{GoOn, Illegal, Unknown, Return, Jump, JumpTable, Branches}
 use Rattle.known.specs.Table.{Kept, Knows}
 use Rattle.walk.specs.State.{Low}
-use Rattle.callback_around.specs.declared.around.Around.{Around}
+use Rattle.callback.specs.declared.around.Around.{Around}
 
 -- the lists are those of an image that passed the checks, and of the functions known so far
 pub record Of (s b f x n : List ℕ) (a : Around) (e : rules.Around) : Type 0 where

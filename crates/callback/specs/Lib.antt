@@ -1,4 +1,6 @@
-pub use Rattle.callback_around.specs.Around
 pub mod AfterBlock
 pub mod Noted
 pub mod Lends
+pub mod Around
+pub mod Taken
+pub mod Branches

@@ -1,7 +1,6 @@
 // One word of a walk (FunctionSlices::instruction_callback).
+pub mod around;
+pub mod branches;
+pub mod jumps;
+pub mod tables;
 pub mod words;
-
-pub use callback_around::around;
-pub use callback_branches::branches;
-pub use callback_jumps::jumps;
-pub use callback_tables::tables;

@@ -16,18 +16,18 @@ ghost use Rattle.function_slices.specs.View.{view, Fit};
 ghost use Rattle.executor.specs.Bits.{bit};
 ghost use Rattle.known.specs.Table.{Kept, Knows};
 ghost use Rattle.walk.specs.State.{walk-of, Going, Is, Listed};
-ghost use Rattle.callback_around.specs.Around.{Inside};
+ghost use Rattle.callback.specs.Around.{Inside};
 ghost use Rattle.callback.specs.AfterBlock.{after-block};
 ghost use Rattle.callback.specs.Noted.{plain, noted, stops, stopped-by, Noting, Notes, IsNoted};
 ghost use Rattle.callback.specs.Lends.{Lends, LendsAll, Meets, Of, At, Aims, kind};
-use callback_around::around::Around;
-use callback_around::around::is_known_function;
-use callback_branches::branches::do_branches;
-use callback_jumps::jumps::do_go_on;
-use callback_jumps::jumps::do_illegal;
-use callback_jumps::jumps::do_jump;
-use callback_jumps::jumps::do_unknown;
-use callback_tables::tables::do_table;
+use crate::around::Around;
+use crate::around::is_known_function;
+use crate::branches::do_branches;
+use crate::jumps::do_go_on;
+use crate::jumps::do_illegal;
+use crate::jumps::do_jump;
+use crate::jumps::do_unknown;
+use crate::tables::do_table;
 use function_slices::places;
 
 // The code word at an address of the code section.

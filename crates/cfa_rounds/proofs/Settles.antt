@@ -17,7 +17,7 @@ use Rattle.obj.specs.declared.sections.Code.{Code}
 use Rattle.function_slices.specs.View.{view}
 use Rattle.known.specs.Table.{Kept, Knows}
 use Rattle.walk.specs.State.{Listed}
-use Rattle.callback_around.specs.declared.around.Around.{Around}
+use Rattle.callback.specs.declared.around.Around.{Around}
 use Rattle.callback.specs.Lends.{Of, LendsAll}
 use Rattle.settle.specs.Settled.{settling-of, settled, IsSettling}
 use Rattle.settle.specs.declared.Settling.{Settling}

@@ -16,7 +16,7 @@ use Rattle.function_slices.specs.View as lists
 use Rattle.function_slices.specs.View.{view, Fit}
 use Rattle.function_slices.specs.declared.Small.{Small}
 use Rattle.known.specs.Table.{Kept, Knows}
-use Rattle.callback_around.specs.declared.around.Around.{Around}
+use Rattle.callback.specs.declared.around.Around.{Around}
 use Rattle.callback.specs.Lends.{Of, LendsAll}
 use Rattle.analyze.specs.Analysis.{answered, IsAnalyzed}
 use Rattle.analyze.specs.declared.Analyzed.{Analyzed}

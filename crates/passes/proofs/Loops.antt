@@ -28,7 +28,7 @@ use Rattle.walk.specs.declared.Walk.{Walk}
 use Rattle.walk.proofs.Answers.{answer-ok, stopped, goes-on, is-ok}
 use Rattle.callback.specs.Around.{IsCodeOf}
 use Rattle.callback.specs.Lends.{Of, LendsAll}
-use Rattle.callback_around.specs.declared.around.Around.{Around}
+use Rattle.callback.specs.declared.around.Around.{Around}
 use Rattle.callback.proofs.Lends.{alike, sound}
 use Rattle.callback.proofs.WordCases.{with-lists}
 use Rattle.passes.specs.Passes.{apart}

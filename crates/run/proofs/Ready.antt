@@ -10,7 +10,7 @@ use Rattle.rules.specs.Image.{Section, code-number}
 use Rattle.rules.specs.Step as steps
 use Rattle.obj.specs.Lent as lents
 use Rattle.callback.specs.Lends.{Of}
-use Rattle.callback_around.specs.declared.around.Around.{Around}
+use Rattle.callback.specs.declared.around.Around.{Around}
 use Rattle.callback.proofs.Lends.{few, sections-few, small-code}
 
 code-from-high : (i : ℕ) (ss : List Section) → images.code-from i ss ≤ i + length ss

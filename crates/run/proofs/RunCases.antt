@@ -25,7 +25,7 @@ use Rattle.walk.specs.declared.Walk.{Walk}
 use Rattle.walk.proofs.Answers.{answer-ok, answer-fault}
 use Rattle.callback.specs.Around.{IsCodeOf, Safe}
 use Rattle.callback.specs.Lends.{Of, LendsAll}
-use Rattle.callback_around.specs.declared.around.Around.{Around}
+use Rattle.callback.specs.declared.around.Around.{Around}
 use Rattle.callback.proofs.Lends.{alike, sound}
 use Rattle.run.specs.Steps.{alive}
 use Rattle.run.proofs.StepCases.{place-at, place-idle}

@@ -25,7 +25,7 @@ use Rattle.walk.specs.declared.Walk.{Walk}
 use Rattle.walk.proofs.Answers.{is-ok, is-fault}
 use Rattle.callback.specs.Around.{IsCodeOf, Alike}
 use Rattle.callback.specs.Lends.{Of, LendsAll, At}
-use Rattle.callback_around.specs.declared.around.Around.{Around}
+use Rattle.callback.specs.declared.around.Around.{Around}
 use Rattle.callback.proofs.Places.{placed-at, placed-same}
 use Rattle.run.specs.Steps.{alive}
 

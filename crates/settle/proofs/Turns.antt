@@ -18,7 +18,7 @@ use Rattle.function_slices.specs.View.{view, part, Fit}
 use Rattle.function_slices.specs.declared.Small.{Small}
 use Rattle.function_slices.proofs.Parts.{part-length}
 use Rattle.callback.specs.Lends.{Of, LendsAll}
-use Rattle.callback_around.specs.declared.around.Around.{Around}
+use Rattle.callback.specs.declared.around.Around.{Around}
 use Rattle.passes.proofs.Loops.{aimed-of}
 use Rattle.settle.specs.Settled.{settling-of, IsSettling}
 use Rattle.settle.specs.declared.Settling.{Settling}

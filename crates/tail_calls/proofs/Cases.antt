@@ -28,7 +28,7 @@ use Rattle.function_slices.specs.declared.Small.{Small}
 use Rattle.prologues.specs.Code.{CodeWords}
 use Rattle.prologues.proofs.Scan.{from-offset}
 use Rattle.callback.specs.Around.{Alike}
-use Rattle.callback_around.specs.declared.around.Around.{Around}
+use Rattle.callback.specs.declared.around.Around.{Around}
 use Rattle.callback.specs.Lends.{Of}
 use Rattle.callback.proofs.Lends.{alike, image-passed}
 use Rattle.callback.proofs.WordCases.{code-part}

@@ -12,7 +12,7 @@ use Rattle.obj.specs.Lent.{Lent, given, image}
 use Rattle.obj.specs.Sections.{IsCode}
 use Rattle.known.specs.Table.{Knows}
 use Rattle.callback.specs.Around.{Alike}
-use Rattle.callback_around.specs.declared.around.Around.{Around}
+use Rattle.callback.specs.declared.around.Around.{Around}
 use Rattle.tail_calls.specs.declared.Tested.{Tested}
 use Rattle.tail_calls.specs.declared.Tested.the-variants.{Not, Is, Possible, Trial}
 

@@ -1,2 +1,0 @@
-// Words of a walk that branch (FunctionSlices::instruction_callback).
-pub mod branches;
