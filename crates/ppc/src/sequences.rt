@@ -5,16 +5,16 @@ ghost use lib.ListN.{drop};
 ghost use Rattle.rules.specs.Bytes.{words-in, words-at};
 ghost use Rattle.rules.specs.Sequences as rules;
 ghost use Rattle.ppc.specs.Tests.{test, IsFirst, sequence};
-use ppc_fields::fields::field;
-use ppc_registers::registers::code;
-use ppc_registers::registers::names_low;
-use ppc_words::words::is_addi;
-use ppc_words::words::is_mflr;
-use ppc_words::words::is_mtlr;
-use ppc_words::words::is_or;
-use ppc_words::words::is_stw;
-use ppc_words::words::is_stwu;
-use ppc_words::words::word_at;
+use crate::fields::field;
+use crate::registers::code;
+use crate::registers::names_low;
+use crate::words::is_addi;
+use crate::words::is_mflr;
+use crate::words::is_mtlr;
+use crate::words::is_or;
+use crate::words::is_stw;
+use crate::words::is_stwu;
+use crate::words::word_at;
 
 // The tests of one word, by number.
 const STWU: u8 = 0;

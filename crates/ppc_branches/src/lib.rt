@@ -1,2 +1,0 @@
-// The targets of direct branches.
-pub mod branches;

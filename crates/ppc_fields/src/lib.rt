@@ -1,2 +1,0 @@
-// The fields of instruction words.
-pub mod fields;

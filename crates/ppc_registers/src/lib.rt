@@ -1,2 +1,0 @@
-// The registers that an instruction word names.
-pub mod registers;
