@@ -28,7 +28,7 @@ use Rattle.callback.specs.Lends.{Of}
 use Rattle.callback.specs.declared.around.Around.{Around}
 use Rattle.callback.proofs.Lends.{word-of, image-passed, sound}
 use Rattle.analyze.specs.Analysis.{Walks}
-use Rattle.passes.proofs.Loops.{sound-of, aimed-of}
+use Rattle.analyze.proofs.Loops.{sound-of, aimed-of}
 
 -- ---- words `nop`
 

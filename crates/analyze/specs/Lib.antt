@@ -1,1 +1,3 @@
 pub mod Analysis
+pub mod Steps
+pub mod Passes

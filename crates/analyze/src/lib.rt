@@ -11,7 +11,7 @@ ghost use Rattle.executor.specs.Bits.{bit, VISITED};
 ghost use Rattle.function_slices.specs.View.{view, Fit};
 ghost use Rattle.walk.specs.State.{walk-of, Going, Is};
 ghost use Rattle.callback.specs.Lends.{LendsAll, Of};
-ghost use Rattle.run.specs.Steps.{Bits};
+ghost use Rattle.analyze.specs.Steps.{Bits};
 ghost use Rattle.analyze.specs.Analysis.{Walks, passes, walk-and-passes, begun, IsAnalyzed};
 use function_slices::places;
 
@@ -66,7 +66,7 @@ fn is_short(
         (vis : ℕ → Bool) →
         r ≡ rules.is-short e (walk-of vis (now (keys .entry)) (now (values .entry)) w)) ⌝ }
 {
-    if passes::is_nowhere(w) {
+    if crate::passes::is_nowhere(w) {
         return false;
     }
     if function_slices::last_end(keys, values, w.small) == 0 {
@@ -102,7 +102,7 @@ fn reach_step(
         (bit (now (visited .exit))) (now (keys .exit)) (now (values .exit)) r) ⌝ }
 {
     let to = next_part(bytes, keys, values, a, w.small);
-    passes::run_pass(
+    crate::passes::run_pass(
         sections,
         bytes,
         outcomes,
@@ -192,7 +192,7 @@ fn run_passes(
         Is (passes e (walk-of (bit (now (visited .entry))) (now (keys .entry)) (now (values .entry)) w))
         (bit (now (visited .exit))) (now (keys .exit)) (now (values .exit)) r) ⌝ }
 {
-    let r = passes::connect(
+    let r = crate::passes::connect(
         sections,
         bytes,
         outcomes,
@@ -250,7 +250,7 @@ fn walk_and_passes(
         Is (walk-and-passes e addr (walk-of (bit (now (visited .entry))) (now (keys .entry)) (now (values .entry)) w))
         (bit (now (visited .exit))) (now (keys .exit)) (now (values .exit)) r) ⌝ }
 {
-    let r = passes::walk_from(
+    let r = crate::passes::walk_from(
         sections,
         bytes,
         outcomes,
@@ -297,7 +297,7 @@ fn analyze_ends(keys: &[u64], values: &[u64], w: walk::Walk) -> Analyzed
         (now (values .entry)) r) ⌝ }
 {
     let mut small = w.small;
-    if passes::is_nowhere(w) {
+    if crate::passes::is_nowhere(w) {
         return Analyzed {
             small,
             found: false,

@@ -19,7 +19,7 @@ use Rattle.obj.specs.Lent as lents
 use Rattle.obj.specs.Lent.{Lent, image}
 use Rattle.obj.specs.declared.sections.Code.{Code}
 use Rattle.obj.proofs.Ready.{whole-functions}
-use Rattle.run.proofs.Ready.{code-in}
+use Rattle.analyze.proofs.Ready.{code-in}
 use Rattle.known.specs.Table.{Kept, Knows}
 use Rattle.entries.specs.Table.{Holds, Good}
 use Rattle.entries.proofs.Rows.{count-is}

@@ -18,7 +18,7 @@ use Rattle.rules.proofs.Placed.{State, fresh, bare, filled, Placed, Table}
 use Rattle.obj.specs.Lent.{Lent, image}
 use Rattle.obj.specs.declared.sections.Code.{Code}
 use Rattle.walk.specs.State.{Low}
-use Rattle.run.proofs.Ready.{code-in}
+use Rattle.analyze.proofs.Ready.{code-in}
 use Rattle.entries.specs.Table.{Holds}
 use Rattle.cfa_rounds.specs.Displayed.{Displays}
 use Rattle.cfa_rounds.proofs.Settles.{lends}

@@ -21,7 +21,7 @@ use Rattle.obj.specs.declared.sections.Code.{Code}
 use Rattle.obj.specs.Sections.{InBytes}
 use Rattle.obj_rows.specs.Skips.{Ascending}
 use Rattle.cfa_rounds.specs.Looks.{Looks}
-use Rattle.run.proofs.Ready.{code-in}
+use Rattle.analyze.proofs.Ready.{code-in}
 use Rattle.entries.specs.Table.{Holds, Good, Told}
 use Rattle.cfa_rounds.specs.Shown.{Shown}
 use Rattle.cfa_rounds.proofs.Storing.{within, ascends}

@@ -19,7 +19,7 @@ use Rattle.function_slices.specs.declared.Small.{Small}
 use Rattle.function_slices.proofs.Parts.{part-length}
 use Rattle.callback.specs.Lends.{Of, LendsAll}
 use Rattle.callback.specs.declared.around.Around.{Around}
-use Rattle.passes.proofs.Loops.{aimed-of}
+use Rattle.analyze.proofs.Loops.{aimed-of}
 use Rattle.settle.specs.Settled.{settling-of, IsSettling}
 use Rattle.settle.specs.declared.Settling.{Settling}
 use Rattle.settle.proofs.Cases.{settled-ok, settled-fault, stays}

@@ -1,5 +1,5 @@
 use Rattle.analyze.proofs.Reaches.{reaches-again, reaches-less, reaches-stop}
-use Rattle.passes.proofs.Loops.{Passing, passes, passing-first, passing-fails, passing-on, passing-less, passing-ends}
+use Rattle.analyze.proofs.Loops.{Passing, passes, passing-first, passing-fails, passing-on, passing-less, passing-ends}
 use Rattle.rules.specs.Analyze as rules
 use mathlib.Core.Path.{sym, _∙_}
 use Rattle.analyze.proofs.reach_end.Statement.{statement}

@@ -1,2 +1,0 @@
-pub mod PassCases
-pub mod Loops

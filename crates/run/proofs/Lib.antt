@@ -1,3 +1,0 @@
-pub mod StepCases
-pub mod Ready
-pub mod RunCases
