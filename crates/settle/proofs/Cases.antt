@@ -25,10 +25,10 @@ use Rattle.walk.specs.State.{Low, Listed}
 use Rattle.walk.proofs.Answers.{listed}
 use Rattle.analyze.specs.Analysis.{answered, IsAnalyzed}
 use Rattle.analyze.specs.declared.Analyzed.{Analyzed}
-use Rattle.tail_calls.specs.Judged.{answer-of, Decides}
-use Rattle.tail_calls.specs.declared.TailCall.{TailCall}
-use Rattle.tail_calls.specs.declared.TailCall.the-variants.{Not, Is, Possible}
-use Rattle.tail_calls.specs.declared.Judged.{Judged}
+use Rattle.settle.specs.Judged.{answer-of, Decides}
+use Rattle.settle.specs.declared.tail_calls.TailCall.{TailCall}
+use Rattle.settle.specs.declared.tail_calls.TailCall.the-variants.{Not, Is, Possible}
+use Rattle.settle.specs.declared.tail_calls.Judged.{Judged}
 use Rattle.settle.specs.Settled.{settling-of, looking, settled, IsSettling}
 use Rattle.settle.specs.declared.Settling.{Settling}
 

@@ -16,12 +16,12 @@ use Rattle.function_slices.specs.View.{view, Fit}
 use Rattle.function_slices.specs.declared.Small.{Small}
 use Rattle.analyze.specs.Analysis.{answered, IsAnalyzed}
 use Rattle.analyze.specs.declared.Analyzed.{Analyzed}
-use Rattle.tail_calls.specs.Asked.{tested}
-use Rattle.tail_calls.specs.declared.Tested.{Tested}
-use Rattle.tail_calls.specs.declared.Tested.the-variants.{Trial}
-use Rattle.tail_calls.specs.Judged.{answer-of, trial-answer, Decides}
-use Rattle.tail_calls.specs.declared.TailCall.{TailCall}
-use Rattle.tail_calls.specs.declared.Judged.{Judged}
+use Rattle.settle.specs.Asked.{tested}
+use Rattle.settle.specs.declared.tail_calls.Tested.{Tested}
+use Rattle.settle.specs.declared.tail_calls.Tested.the-variants.{Trial}
+use Rattle.settle.specs.Judged.{answer-of, trial-answer, Decides}
+use Rattle.settle.specs.declared.tail_calls.TailCall.{TailCall}
+use Rattle.settle.specs.declared.tail_calls.Judged.{Judged}
 
 -- what the tests before the trial say
 module _ (k v : List ℕ) (s : Small) (e : steps.Around) (addr : ℕ) (u : Tested) (before : rules.check-tail-call e addr (view k v s) ≡ tested e addr (view k v s) u) where

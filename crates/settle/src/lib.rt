@@ -10,8 +10,8 @@ ghost use Rattle.rules.specs.Settle as rules;
 ghost use Rattle.function_slices.specs.View.{view, Fit};
 ghost use Rattle.walk.specs.State.{Low};
 ghost use Rattle.callback.specs.Lends.{LendsAll, Of};
-ghost use Rattle.tail_calls.specs.Judged.{answer-of};
-ghost use Rattle.tail_calls.specs.declared.TailCall.the-variants.{Possible};
+ghost use Rattle.settle.specs.Judged.{answer-of};
+ghost use Rattle.settle.specs.declared.tail_calls.TailCall.the-variants.{Possible};
 ghost use Rattle.settle.specs.Settled.{settling-of, looking, IsSettling};
 use function_slices::places;
 
@@ -153,7 +153,7 @@ fn settle(
     a: callback::around::Around,
     slices: function_slices::Small,
     addr: u64,
-    answer: tail_calls::TailCall,
+    answer: crate::tail_calls::TailCall,
     low: u64,
     last: bool,
 ) -> Settling
@@ -170,7 +170,7 @@ fn settle(
         (now (keys .exit)) (now (values .exit)) r) ⌝ }
 {
     match answer {
-        tail_calls::TailCall::Not => include(
+        crate::tail_calls::TailCall::Not => include(
             sections,
             bytes,
             outcomes,
@@ -184,8 +184,8 @@ fn settle(
             addr,
             low,
         ),
-        tail_calls::TailCall::Is => refer(keys, values, slices, addr, low),
-        tail_calls::TailCall::Possible => pass(
+        crate::tail_calls::TailCall::Is => refer(keys, values, slices, addr, low),
+        crate::tail_calls::TailCall::Possible => pass(
             sections,
             bytes,
             outcomes,

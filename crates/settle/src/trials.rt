@@ -6,7 +6,7 @@ ghost use Rattle.rules.specs.Step as steps;
 ghost use Rattle.rules.specs.TailCall as rules;
 ghost use Rattle.function_slices.specs.View.{view, Fit};
 ghost use Rattle.callback.specs.Lends.{LendsAll, Of};
-ghost use Rattle.tail_calls.specs.Judged.{Decides};
+ghost use Rattle.settle.specs.Judged.{Decides};
 use function_slices::places;
 
 // The trial walks from addr with lists of its own, in which only the references stand.
@@ -22,7 +22,7 @@ fn trial(
     a: callback::around::Around,
     slices: function_slices::Small,
     addr: u64,
-) -> tail_calls::Judged
+) -> crate::tail_calls::Judged
     requires lends { ⌜ LendsAll (now sections) (now bytes) (now outcomes) (now functions) (now objects) (now known) a ⌝ }
     requires fit { ⌜ Fit (now keys) (now values) slices × (slices .fault ≡ 0) ⌝ }
     ensures { λ r.
@@ -50,13 +50,13 @@ fn trial(
         addr,
     );
     let small = r.small;
-    tail_calls::judge(keys, values, slices, &tk, &tv, small, r.found, addr)
+    crate::tail_calls::judge(keys, values, slices, &tk, &tv, small, r.found, addr)
 }
 
-fn answered(slices: function_slices::Small, answer: tail_calls::TailCall) -> tail_calls::Judged
+fn answered(slices: function_slices::Small, answer: crate::tail_calls::TailCall) -> crate::tail_calls::Judged
     ensures { λ r. ⌜ r ≡ record { small = slices; answer = answer } ⌝ }
 {
-    tail_calls::Judged {
+    crate::tail_calls::Judged {
         small: slices,
         answer,
     }
@@ -75,7 +75,7 @@ pub fn check_tail_call(
     a: callback::around::Around,
     slices: function_slices::Small,
     addr: u64,
-) -> tail_calls::Judged
+) -> crate::tail_calls::Judged
     requires lends { ⌜ LendsAll (now sections) (now bytes) (now outcomes) (now functions) (now objects) (now known) a ⌝ }
     requires fit { ⌜ Fit (now keys) (now values) slices × (slices .fault ≡ 0) ⌝ }
     ensures { λ r.
@@ -86,12 +86,12 @@ pub fn check_tail_call(
         Decides (rules.check-tail-call e addr (view (now (keys .entry)) (now (values .entry)) slices))
         (now (keys .entry)) (now (keys .exit)) (now (values .entry)) r) ⌝ }
 {
-    let tested = tail_calls::check_before(bytes, known, keys, values, slices, a, addr);
+    let tested = crate::tail_calls::check_before(bytes, known, keys, values, slices, a, addr);
     match tested {
-        tail_calls::Tested::Not => answered(slices, tail_calls::TailCall::Not),
-        tail_calls::Tested::Is => answered(slices, tail_calls::TailCall::Is),
-        tail_calls::Tested::Possible => answered(slices, tail_calls::TailCall::Possible),
-        tail_calls::Tested::Trial => trial(
+        crate::tail_calls::Tested::Not => answered(slices, crate::tail_calls::TailCall::Not),
+        crate::tail_calls::Tested::Is => answered(slices, crate::tail_calls::TailCall::Is),
+        crate::tail_calls::Tested::Possible => answered(slices, crate::tail_calls::TailCall::Possible),
+        crate::tail_calls::Tested::Trial => trial(
             sections,
             bytes,
             outcomes,

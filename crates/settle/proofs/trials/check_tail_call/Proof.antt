@@ -1,7 +1,7 @@
 use Rattle.settle.proofs.Verdicts.{decided, tried}
-use Rattle.tail_calls.specs.declared.TailCall.the-variants as answers
-use Rattle.tail_calls.specs.declared.Tested.the-variants.{Not, Is, Possible}
-use Rattle.tail_calls.proofs.Cases.{asked-of}
+use Rattle.settle.specs.declared.tail_calls.TailCall.the-variants as answers
+use Rattle.settle.specs.declared.tail_calls.Tested.the-variants.{Not, Is, Possible}
+use Rattle.settle.proofs.TailCallsCases.{asked-of}
 use Rattle.callback.proofs.Lends.{bytes-in}
 use mathlib.Core.Path.{refl}
 use borrow.Author.Needs.{needs}

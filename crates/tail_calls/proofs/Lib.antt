@@ -1,3 +1,0 @@
-pub mod Among
-pub mod Cases
-pub mod Answers
