@@ -1,4 +1,7 @@
 // FunctionSlices::analyze: the walk from a start, passes until no block stands apart, and passes up to a known end.
+pub mod passes;
+pub mod run;
+
 ghost use mathlib.Core.Path.{_≡_};
 ghost use mathlib.Core.Bool.{Bool};
 ghost use mathlib.Core.List.{List};

@@ -22,8 +22,8 @@ ghost use Rattle.cfa_rounds.specs.Displayed.{Displays, Displayed};
 ghost use Rattle.cfa_rounds.specs.Behind.{IsRound};
 ghost use Rattle.cfa_rounds.specs.Ready.{Sane, Ready, Fit, Running};
 ghost use Rattle.cfa_rounds.specs.Turns.{turn-of, next-key, no-entry, take-round, turn, rest, IsTurn};
-use crate::new_functions::Detected;
 use crate::adding::Entries;
+use crate::new_functions::Detected;
 use function_slices::places;
 
 // A run between two turns: how many entries there are, how many of those known beforehand were walked, what comes next, and the fault that

@@ -12,7 +12,7 @@ use Rattle.rules.specs.Given.{Given}
 use Rattle.rules.specs.OneFunction.{numbers, stored, known-entry, check-one}
 use Rattle.runs.specs.Runs.{padded}
 use Rattle.known.specs.Table.{Kept, Knows}
-use Rattle.known_rows.specs.Rows.{known-blocks, are-known-list}
+use Rattle.one_function.specs.Rows.{known-blocks, are-known-list}
 use Rattle.one_function.specs.declared.Function.{Function}
 
 -- all fields

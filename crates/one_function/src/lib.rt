@@ -4,6 +4,8 @@
 // end, 0 for none; entries ascend), and a list for the result. Addresses have their section: (section + 1) * 2^32 + address. The
 // result's list gets, column after column: the starts of the basic blocks and their ends (0 for an open one), the words that ways on
 // are from and where they go, the references, the addresses and sizes of the jump tables, the possible blocks; and zeros past them.
+mod known_rows;
+
 ghost use mathlib.Core.Path.{_≡_};
 ghost use mathlib.Core.List.{List, []};
 ghost use Prim.Native.Nat.{ℕ, _/_, _<_};
@@ -18,7 +20,7 @@ ghost use Rattle.function_slices.specs.View.{view, Fit};
 ghost use Rattle.callback.specs.Lends.{LendsAll, Of};
 ghost use Rattle.analyze.specs.Analysis.{answered};
 ghost use Rattle.one_function.specs.Results.{no-function, kept-in, Finished, Told, Checked};
-ghost use Rattle.known_rows.specs.Rows.{are-known-list, known-blocks};
+ghost use Rattle.one_function.specs.Rows.{are-known-list, known-blocks};
 ghost use Rattle.known.specs.Table.{KNOWN};
 use function_slices::places;
 
@@ -189,7 +191,7 @@ fn check_walk(
     if n != 0 {
         return n;
     }
-    let right = known_rows::take_known(known, table);
+    let right = crate::known_rows::take_known(known, table);
     if right & is_start(sections, start) & is_end(start, end) {
         return 0;
     }

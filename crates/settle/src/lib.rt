@@ -1,4 +1,5 @@
 // Possible blocks settled, the lowest first: each is the function's, or a function of its own, or stays possible.
+mod tail_calls;
 mod trials;
 
 ghost use mathlib.Core.Path.{_≡_};

@@ -53,7 +53,10 @@ fn trial(
     crate::tail_calls::judge(keys, values, slices, &tk, &tv, small, r.found, addr)
 }
 
-fn answered(slices: function_slices::Small, answer: crate::tail_calls::TailCall) -> crate::tail_calls::Judged
+fn answered(
+    slices: function_slices::Small,
+    answer: crate::tail_calls::TailCall,
+) -> crate::tail_calls::Judged
     ensures { λ r. ⌜ r ≡ record { small = slices; answer = answer } ⌝ }
 {
     crate::tail_calls::Judged {
@@ -90,7 +93,10 @@ pub fn check_tail_call(
     match tested {
         crate::tail_calls::Tested::Not => answered(slices, crate::tail_calls::TailCall::Not),
         crate::tail_calls::Tested::Is => answered(slices, crate::tail_calls::TailCall::Is),
-        crate::tail_calls::Tested::Possible => answered(slices, crate::tail_calls::TailCall::Possible),
+        crate::tail_calls::Tested::Possible => answered(
+            slices,
+            crate::tail_calls::TailCall::Possible,
+        ),
         crate::tail_calls::Tested::Trial => trial(
             sections,
             bytes,

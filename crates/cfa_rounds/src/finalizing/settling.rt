@@ -17,8 +17,8 @@ ghost use Rattle.cfa_rounds.specs.Adding.{Looks, Looking, Entered};
 ghost use Rattle.cfa_rounds.specs.Shown.{Shows, Shown};
 ghost use Rattle.cfa_rounds.specs.Displayed.{Displays, Displayed, Knowing};
 ghost use Rattle.cfa_rounds.specs.Finalized.{Owns, Ready, kept, settled-lists, Turned};
-use crate::new_functions::Detected;
 use crate::adding::Entries;
+use crate::new_functions::Detected;
 use function_slices::places;
 
 // What the finalized function refers to becomes an entry; then the function is stored with its end.

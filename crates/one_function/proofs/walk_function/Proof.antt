@@ -1,5 +1,5 @@
 use Rattle.one_function.proofs.Lending.{lends-outcomes, told-refused, few-checked, lends, lends-all, told-walked}
-use Rattle.known_rows.specs.Rows.{known-blocks}
+use Rattle.one_function.specs.Rows.{known-blocks}
 use Rattle.rules.specs.OneFunction.{around-one}
 use Rattle.obj.specs.Lent.{lent, image}
 use mathlib.Core.Path.{refl}

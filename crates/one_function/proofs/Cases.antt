@@ -18,9 +18,9 @@ use Rattle.ordered.proofs.Columns.{rows-keys}
 use Rattle.function_slices.specs.View.{part}
 use Rattle.function_slices.proofs.Parts.{Lent, over, lent, part-length}
 use Rattle.known.specs.Table.{as-block, Kept, Knows}
-use Rattle.known_rows.specs.Rows.{known-blocks, are-known-list, every-other, Filled, Taken}
-use Rattle.known_rows.proofs.Columns.{columns-are, blocks-count, others-count}
-use Rattle.known_rows.proofs.Ascending.{chained-starts, chained-rises}
+use Rattle.one_function.specs.Rows.{known-blocks, are-known-list, every-other, Filled, Taken}
+use Rattle.one_function.proofs.Columns.{columns-are, blocks-count, others-count}
+use Rattle.one_function.proofs.Ascending.{chained-starts, chained-rises}
 
 -- ---- both columns
 

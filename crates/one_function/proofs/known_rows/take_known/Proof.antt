@@ -1,8 +1,8 @@
 use Rattle.function_slices.specs.View.{part}
-use Rattle.known_rows.proofs.Cases.{taken-odd, taken-many, fill-needs, ascends-needs, taken-as-told}
+use Rattle.one_function.proofs.Cases.{taken-odd, taken-many, fill-needs, ascends-needs, taken-as-told}
 use borrow.Author.Needs.{needs}
-use Rattle.known_rows.proofs.take_known.Statement.{statement}
-use Rattle.known_rows.proofs.take_known.Tie as tie
+use Rattle.one_function.proofs.known_rows.take_known.Statement.{statement}
+use Rattle.one_function.proofs.known_rows.take_known.Tie as tie
 
 returns : tie.Need-returns
 returns c = taken-odd _ _ (c .before .before .before .pre) (c .if1 .taken)

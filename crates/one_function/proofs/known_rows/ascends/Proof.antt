@@ -4,9 +4,9 @@ use native.Mathlib.Omega.{arith}
 use lib.Dec.{ltb}
 use lib.ListN.{take, drop}
 use Rattle.rules.specs.Check.{chained}
-use Rattle.known_rows.proofs.Ascending.{ascends-next, ascends-not, ascends-end}
-use Rattle.known_rows.proofs.ascends.Statement.{statement}
-use Rattle.known_rows.proofs.ascends.Tie as tie
+use Rattle.one_function.proofs.Ascending.{ascends-next, ascends-not, ascends-end}
+use Rattle.one_function.proofs.known_rows.ascends.Statement.{statement}
+use Rattle.one_function.proofs.known_rows.ascends.Tie as tie
 
 abbrev Inv-loop : tie.InvT-loop
 Inv-loop xs n i₀ j₀ i j = (j ≡ i + 1) × (chained ltb (drop i (take n xs)) ≡ chained ltb (take n xs))

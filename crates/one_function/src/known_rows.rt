@@ -4,7 +4,7 @@ ghost use Prim.Native.Nat.{_+_, _≤_};
 ghost use lib.Dec.{ltb};
 ghost use lib.ListN.{length, take, drop};
 ghost use Rattle.rules.specs.Check.{chained};
-ghost use Rattle.known_rows.specs.Rows.{every-other, Filled, Taken};
+ghost use Rattle.one_function.specs.Rows.{every-other, Filled, Taken};
 ghost use Rattle.known.specs.Table.{ENTRIES, KNOWN};
 
 // Every other number of the rows, from the first or the second on: `count` of them.

@@ -1,8 +1,8 @@
 use Rattle.function_slices.specs.View.{part}
-use Rattle.known_rows.proofs.Cases.{both-filled}
+use Rattle.one_function.proofs.Cases.{both-filled}
 use borrow.Author.Needs.{needs}
-use Rattle.known_rows.proofs.fill_known.Statement.{statement}
-use Rattle.known_rows.proofs.fill_known.Tie as tie
+use Rattle.one_function.proofs.known_rows.fill_known.Statement.{statement}
+use Rattle.one_function.proofs.known_rows.fill_known.Tie as tie
 
 returns : tie.Need-returns
 unfolding part

@@ -1,9 +1,9 @@
 use Prim.Native.Nat.{_≤_, _-_}
 use mathlib.Core.Path.{_≡_}
 use native.Mathlib.Omega.{arith}
-use Rattle.known_rows.proofs.Columns.{Copied, copied-start, copied-next}
-use Rattle.known_rows.proofs.copy_column.Statement.{statement}
-use Rattle.known_rows.proofs.copy_column.Tie as tie
+use Rattle.one_function.proofs.Columns.{Copied, copied-start, copied-next}
+use Rattle.one_function.proofs.known_rows.copy_column.Statement.{statement}
+use Rattle.one_function.proofs.known_rows.copy_column.Tie as tie
 
 abbrev Inv-loop : tie.InvT-loop
 Inv-loop rows from n out₀ i₀ out i = (i ≤ n) × Copied rows from out₀ i out

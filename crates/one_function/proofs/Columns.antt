@@ -8,7 +8,7 @@ use lib.ListN.{length, take, drop, getD, set, length-set, length-drop}
 use lib.Seq.{take-suc, take-suc-set, getD-drop}
 use Rattle.rules.specs.Blocks.{Block, block}
 use Rattle.ordered.specs.Columns.{join}
-use Rattle.known_rows.specs.Rows.{known-blocks, every-other}
+use Rattle.one_function.specs.Rows.{known-blocks, every-other}
 
 other-next : (a : ℕ) (l : List ℕ) → every-other (a ∷ l) ≡ a ∷ every-other (drop 1 l)
 other-next a [] = refl
