@@ -3,108 +3,101 @@ use mathlib.Core.Path.{_≡_, refl, sym, ap, _∙_}
 use mathlib.Core.Bool.{Bool, true, false, _&&_}
 use mathlib.Core.List.{List}
 use mathlib.Core.Option.{Option, none, some}
-use Prim.Native.Nat.{ℕ, _<_, _≤_}
+use Prim.Native.Nat.{ℕ, _+_, _<_, _≤_}
 use lib.Dec.{ltb, leb, eqb}
 use lib.ListN.{length}
 use borrow.Author.Tests.{le-leb, lt-leb, eq-eqb, ne-eqb}
 use Rattle.rules.specs.Choice.{if}
 use Rattle.rules.specs.Check.{all}
 use Rattle.frames.specs.Frames
-use Rattle.frames.specs.Frames.{is-digit, number, section-line, code-word-line, word-line, branch-line, tagged, read-frame}
-use Rattle.frames.specs.Struct.{of-kind}
+use Rattle.frames.specs.Frames.{is-digit, number, tagged, read-frame}
+use Rattle.frames.specs.Struct.{of-kind, allowed, of-digits}
 
 pub no-kind : of-kind 0 0 0 0 ≡ none
 unfolding of-kind if
 no-kind = refl
 
+-- ---- the numbers of a line
+
+module _ (l : List ℕ) (k a b c : ℕ) where
+  module _ (n : length l ≡ 2 + a + b + c) (x y z : ℕ) (ex : x ≡ number l 2 a) (ey : y ≡ number l (2 + a) b) (ez : z ≡ number l (2 + a + b) c) (t : Bool) (et : t ≡ allowed k x y z) where
+    pub digits-are : t ≡ true → of-kind k x y z ≡ of-digits k a b c l
+    unfolding of-digits if
+    digits-are h = rw (eq-eqb (length l) (2 + a + b + c) n) (rw (sym ex) (rw (sym ey) (rw (sym ez) (rw (sym et ∙ h) refl))))
+
+    pub digits-not : (o : Option Frames.Frame) → t ≡ false → o ≡ none → o ≡ of-digits k a b c l
+    unfolding of-digits if
+    digits-not o h e = e ∙ rw (eq-eqb (length l) (2 + a + b + c) n) (rw (sym ex) (rw (sym ey) (rw (sym ez) (rw (sym et ∙ h) refl))))
+
+  pub digits-long : (o : Option Frames.Frame) → (length l ≡ 2 + a + b + c → ⊥) → o ≡ none → o ≡ of-digits k a b c l
+  unfolding of-digits if
+  digits-long o n e = e ∙ rw (ne-eqb (length l) (2 + a + b + c) n) refl
+
+-- ---- what a kind may have
+
+module _ (k a b c : ℕ) where
+  pub kind-is : (j : ℕ) → k ≡ j → (t : Bool) → t ≡ allowed j a b c → t ≡ allowed k a b c
+  kind-is j h t e = rw h e
+
+  pub any-other : (k ≡ 1 → ⊥) → (k ≡ 5 → ⊥) → (k ≡ 6 → ⊥) → (k ≡ 7 → ⊥) → (k ≡ 10 → ⊥) → true ≡ allowed k a b c
+  unfolding allowed if
+  any-other n1 n5 n6 n7 n10 = rw (ne-eqb k 1 n1) (rw (ne-eqb k 5 n5) (rw (ne-eqb k 6 n6) (rw (ne-eqb k 7 n7) (rw (ne-eqb k 10 n10) refl))))
+
+-- ---- tests one inside the other
+
+module _ {A : Type 0} (x y : A) where
+  pub two-tests : (p q : Bool) → if p (if q x y) y ≡ if (p && q) x y
+  unfolding if
+  two-tests true q = refl
+  two-tests false q = refl
+
+  pub three-tests : (p q r : Bool) → if p (if (q && r) x y) y ≡ if (p && q && r) x y
+  unfolding if
+  three-tests true q r = refl
+  three-tests false q r = refl
+
+  pub no-test : (p : Bool) → if p y y ≡ y
+  unfolding if
+  no-test true = refl
+  no-test false = refl
+
 module _ (l : List ℕ) (o : Option Frames.Frame) where
-  -- ---- a section
-  pub section-is : (k b s : ℕ) → length l ≡ 20 → k ≡ number l 2 2 → b ≡ number l 4 8 → s ≡ number l 12 8 → (leb 1 k && leb k 4) ≡ true → o ≡ of-kind 1 k b s → o ≡ section-line l
-  unfolding of-kind if
-  section-is k b s n ek eb es t e = e ∙ rw (eq-eqb (length l) 20 n) (rw (sym ek) (rw (sym eb) (rw (sym es) (rw t refl))))
-
-  pub section-not : (k : ℕ) → length l ≡ 20 → k ≡ number l 2 2 → (leb 1 k && leb k 4) ≡ false → o ≡ none → o ≡ section-line l
-  unfolding if
-  section-not k n ek t e = e ∙ rw (eq-eqb (length l) 20 n) (rw (sym ek) (rw t refl))
-
-  pub section-long : (length l ≡ 20 → ⊥) → o ≡ none → o ≡ section-line l
-  unfolding if
-  section-long n e = e ∙ rw (ne-eqb (length l) 20 n) refl
-
-  -- ---- a code word, and a word
-  pub code-word-is : (w k m : ℕ) → length l ≡ 14 → w ≡ number l 2 8 → k ≡ number l 10 2 → m ≡ number l 12 2 → (leb k 6 && leb m 1) ≡ true → o ≡ of-kind 10 w k m → o ≡ code-word-line l
-  unfolding of-kind if
-  code-word-is w k m n ew ek em t e = e ∙ rw (eq-eqb (length l) 14 n) (rw (sym ew) (rw (sym ek) (rw (sym em) (rw t refl))))
-
-  pub code-word-not : (k m : ℕ) → length l ≡ 14 → k ≡ number l 10 2 → m ≡ number l 12 2 → (leb k 6 && leb m 1) ≡ false → o ≡ none → o ≡ code-word-line l
-  unfolding if
-  code-word-not k m n ek em t e = e ∙ rw (eq-eqb (length l) 14 n) (rw (sym ek) (rw (sym em) (rw t refl)))
-
-  pub code-word-long : (length l ≡ 14 → ⊥) → o ≡ none → o ≡ code-word-line l
-  unfolding if
-  code-word-long n e = e ∙ rw (ne-eqb (length l) 14 n) refl
-
-  pub word-is : (w : ℕ) → length l ≡ 10 → w ≡ number l 2 8 → o ≡ of-kind 2 w 0 0 → o ≡ word-line l
-  unfolding of-kind if
-  word-is w n ew e = e ∙ rw (eq-eqb (length l) 10 n) (rw (sym ew) refl)
-
-  pub word-long : (length l ≡ 10 → ⊥) → o ≡ code-word-line l → o ≡ word-line l
-  unfolding if
-  word-long n e = e ∙ rw (ne-eqb (length l) 10 n) refl
-
-  -- ---- a branch
-  pub branch-is : (k t a : ℕ) → length l ≡ 14 → k ≡ number l 2 2 → t ≡ number l 4 2 → a ≡ number l 6 8 → (leb k 1 && leb t 2) ≡ true → o ≡ of-kind 5 k t a → o ≡ branch-line l
-  unfolding of-kind if
-  branch-is k t a n ek et ea h e = e ∙ rw (eq-eqb (length l) 14 n) (rw (sym ek) (rw (sym et) (rw (sym ea) (rw h refl))))
-
-  pub branch-not : (k t : ℕ) → length l ≡ 14 → k ≡ number l 2 2 → t ≡ number l 4 2 → (leb k 1 && leb t 2) ≡ false → o ≡ none → o ≡ branch-line l
-  unfolding if
-  branch-not k t n ek et h e = e ∙ rw (eq-eqb (length l) 14 n) (rw (sym ek) (rw (sym et) (rw h refl)))
-
-  pub branch-long : (length l ≡ 14 → ⊥) → o ≡ none → o ≡ branch-line l
-  unfolding if
-  branch-long n e = e ∙ rw (ne-eqb (length l) 14 n) refl
-
-  -- ---- one word, two words, a symbol, of any kind
-  module _ (kind : ℕ) where
-    pub one-is : (a : ℕ) → length l ≡ 10 → a ≡ number l 2 8 → o ≡ of-kind kind a 0 0 → o ≡ if (eqb (length l) 10) (of-kind kind (number l 2 8) 0 0) none
-    unfolding if
-    one-is a n ea e = e ∙ rw (eq-eqb (length l) 10 n) (rw (sym ea) refl)
-
-    pub one-long : (length l ≡ 10 → ⊥) → o ≡ none → o ≡ if (eqb (length l) 10) (of-kind kind (number l 2 8) 0 0) none
-    unfolding if
-    one-long n e = e ∙ rw (ne-eqb (length l) 10 n) refl
-
-    pub two-is : (a b : ℕ) → length l ≡ 18 → a ≡ number l 2 8 → b ≡ number l 10 8 → o ≡ of-kind kind a b 0 → o ≡ if (eqb (length l) 18) (of-kind kind (number l 2 8) (number l 10 8) 0) none
-    unfolding if
-    two-is a b n ea eb e = e ∙ rw (eq-eqb (length l) 18 n) (rw (sym ea) (rw (sym eb) refl))
-
-    pub two-long : (length l ≡ 18 → ⊥) → o ≡ none → o ≡ if (eqb (length l) 18) (of-kind kind (number l 2 8) (number l 10 8) 0) none
-    unfolding if
-    two-long n e = e ∙ rw (ne-eqb (length l) 18 n) refl
-
-    pub symbol-is : (a s k : ℕ) → length l ≡ 20 → a ≡ number l 2 8 → s ≡ number l 10 8 → k ≡ number l 18 2 → k ≤ 1 → o ≡ of-kind kind a s k → o ≡ if (eqb (length l) 20 && leb (number l 18 2) 1) (of-kind kind (number l 2 8) (number l 10 8) (number l 18 2)) none
-    unfolding if
-    symbol-is a s k n ea es ek h e = e ∙ rw (eq-eqb (length l) 20 n) (rw (sym ea) (rw (sym es) (rw (sym ek) (rw (le-leb k 1 h) refl))))
-
-    pub symbol-not : (k : ℕ) → length l ≡ 20 → k ≡ number l 18 2 → 1 < k → o ≡ none → o ≡ if (eqb (length l) 20 && leb (number l 18 2) 1) (of-kind kind (number l 2 8) (number l 10 8) (number l 18 2)) none
-    unfolding if
-    symbol-not k n ek h e = e ∙ rw (eq-eqb (length l) 20 n) (rw (sym ek) (rw (lt-leb k 1 h) refl))
-
-    pub symbol-long : (length l ≡ 20 → ⊥) → o ≡ none → o ≡ if (eqb (length l) 20 && leb (number l 18 2) 1) (of-kind kind (number l 2 8) (number l 10 8) (number l 18 2)) none
-    unfolding if
-    symbol-long n e = e ∙ rw (ne-eqb (length l) 20 n) refl
-
   -- ---- by the first two digits
   module _ (t : ℕ) where
     -- one that the definition has a case for
     pub tag-is : (k : ℕ) → t ≡ k → o ≡ tagged k l → o ≡ tagged t l
     tag-is k h e = rw h e
 
-    pub tag-not : (t ≡ 1 → ⊥) → (t ≡ 2 → ⊥) → (t ≡ 3 → ⊥) → (t ≡ 4 → ⊥) → (t ≡ 5 → ⊥) → (t ≡ 6 → ⊥) → (t ≡ 7 → ⊥) → (t ≡ 8 → ⊥) → (t ≡ 9 → ⊥) → o ≡ none → o ≡ tagged t l
-    unfolding tagged if
+    pub tag-section : t ≡ 1 → o ≡ of-digits 1 2 8 8 l → o ≡ tagged t l
+    unfolding tagged of-digits allowed of-kind if
+    tag-section h e = rw h (e ∙ three-tests _ _ (eqb (length l) 20) (leb 1 (number l 2 2)) (leb (number l 2 2) 4))
+
+    pub tag-word : t ≡ 2 → length l ≡ 10 → o ≡ of-digits 2 8 0 0 l → o ≡ tagged t l
+    unfolding tagged of-digits allowed of-kind if
+    tag-word h n e = rw h (e ∙ rw (eq-eqb (length l) 10 n) refl)
+
+    pub tag-code-word : t ≡ 2 → (length l ≡ 10 → ⊥) → o ≡ of-digits 10 8 2 2 l → o ≡ tagged t l
+    unfolding tagged of-digits allowed of-kind if
+    tag-code-word h n e =
+        rw h (e ∙ three-tests _ _ (eqb (length l) 14) (leb (number l 10 2) 6) (leb (number l 12 2) 1) ∙ rw (ne-eqb (length l) 10 n) refl)
+
+    pub tag-branch : t ≡ 5 → o ≡ of-digits 5 2 2 8 l → o ≡ tagged t l
+    unfolding tagged of-digits allowed of-kind if
+    tag-branch h e = rw h (e ∙ three-tests _ _ (eqb (length l) 14) (leb (number l 2 2) 1) (leb (number l 4 2) 2))
+
+    pub tag-function : t ≡ 6 → o ≡ of-digits 6 8 8 2 l → o ≡ tagged t l
+    unfolding tagged of-digits allowed of-kind if
+    tag-function h e = rw h (e ∙ two-tests _ _ (eqb (length l) 20) (leb (number l 18 2) 1))
+
+    pub tag-object : t ≡ 7 → o ≡ of-digits 7 8 8 2 l → o ≡ tagged t l
+    unfolding tagged of-digits allowed of-kind if
+    tag-object h e = rw h (e ∙ two-tests _ _ (eqb (length l) 20) (leb (number l 18 2) 1))
+
+    pub tag-not : (t ≡ 1 → ⊥) → (t ≡ 2 → ⊥) → (t ≡ 3 → ⊥) → (t ≡ 4 → ⊥) → (t ≡ 5 → ⊥) → (t ≡ 6 → ⊥) → (t ≡ 7 → ⊥) → (t ≡ 8 → ⊥) → (t ≡ 9 → ⊥) → o ≡ of-digits 0 0 0 0 l → o ≡ tagged t l
+    unfolding tagged of-digits allowed of-kind if
     tag-not n1 n2 n3 n4 n5 n6 n7 n8 n9 e =
         e
+        ∙ no-test none none (eqb (length l) 2)
         ∙ rw (ne-eqb t 1 n1)
         (rw (ne-eqb t 2 n2)
         (rw (ne-eqb t 3 n3)

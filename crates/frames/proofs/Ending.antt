@@ -88,6 +88,11 @@ module _ (n : ℕ) (xs : List ℕ) (room : n ≤ length xs) where
 pub pair-is : (n k j v w : ℕ) (xs ys zs : List ℕ) → Now n xs ys (set-back (take n xs) k v) → Now n ys zs (set-back (take n ys) j w) → Now n xs zs (set-back (set-back (take n xs) k v) j w)
 pair-is n k j v w xs ys zs p q = record { size = q .size ∙ p .size; same = q .same ∙ ap (λ (l : List ℕ). set-back l j w) (p .same) }
 
+pub pair-set : (n : ℕ) (xs : List ℕ) → n ≤ length xs → (k j v w : ℕ) → 1 ≤ k → k ≤ n → 1 ≤ j → j ≤ n → Now n xs (set (set xs (n - k) v) (n - j) w) (set-back (set-back (take n xs) k v) j w)
+pair-set n xs room k j v w lo hi lo′ hi′ =
+    let h : length (set xs (n - k) v) ≡ length xs = length-set xs (n - k) v in
+    pair-is n k j v w xs _ _ (set-is n xs room k v lo hi) (set-is n (set xs (n - k) v) (omega arith) j w lo′ hi′)
+
 -- ---- a word's bytes
 
 pub four-bytes : (n w : ℕ) (xs : List ℕ) → n + 4 ≤ length xs → PutWord n w xs (set (set (set (set xs n (w / 0x100_0000)) (n + 1) (w / 0x1_0000 % 256)) (n + 2) (w / 256 % 256)) (n + 3) (w % 256))

@@ -1,14 +1,15 @@
 -- Numbers put behind the first n, one row after another, and what comes of adding a row.
 use mathlib.Core.Path.{_≡_, refl, sym, ap, _∙_}
-use mathlib.Core.List.{List, [], _∷_, _++_}
+use mathlib.Core.List.{List, [], _∷_, _++_, append-assoc, append-nil}
 use mathlib.Core.Bool.{Bool, true, false}
 use mathlib.Core.Option.{Option, none, some}
 use Prim.Native.Nat.{ℕ, zero, suc, _+_, _-_, _<_, _≤_}
 use native.Mathlib.Numerals.{add-one}
+use native.Mathlib.Nat.{add-zero}
 use native.Mathlib.Omega.{arith}
 use lib.Dec.{ltb, leb}
-use lib.ListN.{length, take, set, length-set}
-use lib.Seq.{take-suc-set, length-take-le}
+use lib.ListN.{length, take, getD, set, length-append, length-set}
+use lib.Seq.{take-suc, take-suc-set, length-take-le}
 use borrow.Author.Tests.{lt-ltb, le-ltb, le-leb, lt-leb}
 use Rattle.rules.specs.Choice.{if}
 use Rattle.frames.specs.Rows.{add-row, counted, Put, Added}
@@ -16,18 +17,10 @@ use Rattle.frames.specs.Rows.{add-row, counted, Put, Added}
 pub put-one : (n v : ℕ) (xs : List ℕ) → n < length xs → Put n (v ∷ []) xs (set xs n v)
 put-one n v xs h = record { size = length-set xs n v; same = rw (add-one n) (take-suc-set xs n v h) }
 
-assoc : (a b c : List ℕ) → (a ++ b) ++ c ≡ a ++ (b ++ c)
-assoc [] b c = refl
-assoc (x ∷ a) b c = ap (λ (l : List ℕ). x ∷ l) (assoc a b c)
-
-joined : (r s : List ℕ) → length (r ++ s) ≡ length r + length s
-joined [] s = omega arith
-joined (x ∷ r) s = let h : length (r ++ s) ≡ length r + length s = joined r s in omega arith
-
 -- one row behind another
 pub put-both : (n m : ℕ) (r s xs ys zs : List ℕ) → m ≡ n + length r → Put n r xs ys → Put m s ys zs → Put n (r ++ s) xs zs
 put-both n m r s xs ys zs em p q =
-    let h : length (r ++ s) ≡ length r + length s = joined r s in
+    let h : length (r ++ s) ≡ length r + length s = length-append r s in
     let e : n + length (r ++ s) ≡ m + length s = omega arith in
     record {
       size = q .size ∙ p .size;
@@ -35,8 +28,22 @@ put-both n m r s xs ys zs em p q =
           ap (λ (i : ℕ). take i zs) e
           ∙ q .same
           ∙ ap (λ (l : List ℕ). l ++ s) (ap (λ (i : ℕ). take i ys) em ∙ p .same)
-          ∙ assoc (take n xs) r s;
+          ∙ append-assoc (take n xs) r s;
     }
+
+-- the first numbers of a row, one after the other
+pub put-start : (n : ℕ) (row xs : List ℕ) → Put n (take 0 row) xs xs
+put-start n row xs = record { size = refl; same = rw (add-zero n) (sym (append-nil (take n xs))) }
+
+module _ (n i : ℕ) (row xs ys : List ℕ) (within : i < length row) (p : Put n (take i row) xs ys) where
+  at-next : n + i ≡ n + length (take i row)
+  at-next = ap (λ (j : ℕ). n + j) (sym (length-take-le i row (omega arith)))
+
+  pub put-next : n + i < length xs → Put n (take (i + 1) row) xs (set ys (n + i) (getD row i 0))
+  put-next room =
+      let v : ℕ = getD row i 0 in
+      let q : Put (n + i) (v ∷ []) ys (set ys (n + i) v) = put-one (n + i) v ys (omega (arith, p .size)) in
+      rw (add-one, take-suc row i 0 within) (put-both n (n + i) (take i row) (v ∷ []) xs ys (set ys (n + i) v) at-next p q)
 
 module _ (limit n : ℕ) (row xs : List ℕ) (room : n ≤ length xs) where
   long : length (take n xs) ≡ n

@@ -1,14 +1,11 @@
 // One line, without its newline, as a frame.
 ghost use mathlib.Core.Path.{_≡_};
-ghost use mathlib.Core.Bool.{_&&_};
 ghost use mathlib.Core.Option.{none};
 ghost use Prim.Native.Nat.{_+_, _≤_};
-ghost use lib.Dec.{leb, eqb};
 ghost use lib.ListN.{length};
-ghost use Rattle.rules.specs.Choice.{if};
 ghost use Rattle.rules.specs.Check.{all};
 ghost use Rattle.frames.specs.Frames as lines;
-ghost use Rattle.frames.specs.Struct.{of-kind, frame-of};
+ghost use Rattle.frames.specs.Struct.{allowed, of-digits, frame-of};
 
 // What a line says: its kind and up to three numbers, in the line's order; 0 where there is none. The kind is the number that the
 // line begins with, 10 for a word with an outcome, and 0 for what is no frame.
@@ -94,113 +91,51 @@ pub fn hex(line: &[u8], from: usize, count: usize) -> u32
     v
 }
 
-fn of_numbers(kind: u32, first: u32, second: u32, third: u32) -> Frame
-    ensures { λ r. ⌜ frame-of r ≡ of-kind kind first second third ⌝ }
+// Whether a frame of this kind may have these numbers.
+fn is_allowed(kind: u32, first: u32, second: u32, third: u32) -> bool
+    ensures { λ r. ⌜ r ≡ allowed kind first second third ⌝ }
 {
-    Frame {
-        kind,
-        first,
-        second,
-        third,
+    match kind {
+        1 => (1 <= first) & (first <= 4),
+        5 => (first <= 1) & (second <= 2),
+        6 => third <= 1,
+        7 => third <= 1,
+        10 => (second <= 6) & (third <= 1),
+        _ => true,
     }
 }
 
 fn no_frame() -> Frame
     ensures { λ r. ⌜ frame-of r ≡ none ⌝ }
 {
-    of_numbers(NO_FRAME, 0, 0, 0)
+    Frame {
+        kind: NO_FRAME,
+        first: 0,
+        second: 0,
+        third: 0,
+    }
 }
 
-fn section_line(line: &[u8]) -> Frame
-    ensures { λ r. ⌜ frame-of r ≡ lines.section-line (now (line .entry)) ⌝ }
+// A frame of this kind, its three numbers of so many digits each; one of no digits is 0.
+fn of_digits(line: &[u8], kind: u32, a: usize, b: usize, c: usize) -> Frame
+    requires { ⌜ (a ≤ 8) × (b ≤ 8) × (c ≤ 8) ⌝ }
+    ensures { λ r. ⌜ frame-of r ≡ of-digits kind a b c (now (line .entry)) ⌝ }
 {
-    if line.len() == 20 {
-        let kind = hex(line, 2, 2);
-        if (1 <= kind) & (kind <= 4) {
-            return of_numbers(SECTION, kind, hex(line, 4, 8), hex(line, 12, 8));
+    if line.len() == 2 + a + b + c {
+        let first = hex(line, 2, a);
+        let second = hex(line, 2 + a, b);
+        let third = hex(line, 2 + a + b, c);
+        if is_allowed(kind, first, second, third) {
+            return Frame {
+                kind,
+                first,
+                second,
+                third,
+            };
         }
         return no_frame();
     }
     no_frame()
-}
-
-fn code_word_line(line: &[u8]) -> Frame
-    ensures { λ r. ⌜ frame-of r ≡ lines.code-word-line (now (line .entry)) ⌝ }
-{
-    if line.len() == 14 {
-        let outcome = hex(line, 10, 2);
-        let mark = hex(line, 12, 2);
-        if (outcome <= 6) & (mark <= 1) {
-            return of_numbers(CODE_WORD, hex(line, 2, 8), outcome, mark);
-        }
-        return no_frame();
-    }
-    no_frame()
-}
-
-fn branch_line(line: &[u8]) -> Frame
-    ensures { λ r. ⌜ frame-of r ≡ lines.branch-line (now (line .entry)) ⌝ }
-{
-    if line.len() == 14 {
-        let link = hex(line, 2, 2);
-        let to = hex(line, 4, 2);
-        if (link <= 1) & (to <= 2) {
-            return of_numbers(BRANCH, link, to, hex(line, 6, 8));
-        }
-        return no_frame();
-    }
-    no_frame()
-}
-
-// A frame of one word.
-fn one_word(line: &[u8], kind: u32) -> Frame
-    ensures { λ r.
-        ⌜ frame-of r ≡ if (eqb (length (now (line .entry))) 10)
-        (of-kind kind (lines.number (now (line .entry)) 2 8) 0 0) none ⌝ }
-{
-    if line.len() == 10 {
-        return of_numbers(kind, hex(line, 2, 8), 0, 0);
-    }
-    no_frame()
-}
-
-// A frame of two words.
-fn two_words(line: &[u8], kind: u32) -> Frame
-    ensures { λ r.
-        ⌜ frame-of r ≡ if (eqb (length (now (line .entry))) 18)
-        (of-kind kind (lines.number (now (line .entry)) 2 8) (lines.number (now (line .entry)) 10 8) 0) none ⌝ }
-{
-    if line.len() == 18 {
-        return of_numbers(kind, hex(line, 2, 8), hex(line, 10, 8), 0);
-    }
-    no_frame()
-}
-
-// A function or object symbol.
-fn symbol_line(line: &[u8], kind: u32) -> Frame
-    ensures { λ r.
-        ⌜ frame-of r ≡ if (eqb (length (now (line .entry))) 20 && leb (lines.number (now (line .entry)) 18 2) 1)
-        (of-kind kind (lines.number (now (line .entry)) 2 8) (lines.number (now (line .entry)) 10 8)
-        (lines.number (now (line .entry)) 18 2))
-        none ⌝ }
-{
-    if line.len() == 20 {
-        let known = hex(line, 18, 2);
-        if known <= 1 {
-            return of_numbers(kind, hex(line, 2, 8), hex(line, 10, 8), known);
-        }
-        return no_frame();
-    }
-    no_frame()
-}
-
-fn word_line(line: &[u8]) -> Frame
-    ensures { λ r. ⌜ frame-of r ≡ lines.word-line (now (line .entry)) ⌝ }
-{
-    if line.len() == 10 {
-        return of_numbers(WORD, hex(line, 2, 8), 0, 0);
-    }
-    code_word_line(line)
 }
 
 // The line's frame, by the number that it begins with.
@@ -208,16 +143,21 @@ fn tagged(line: &[u8], tag: u32) -> Frame
     ensures { λ r. ⌜ frame-of r ≡ lines.tagged tag (now (line .entry)) ⌝ }
 {
     match tag {
-        1 => section_line(line),
-        2 => word_line(line),
-        3 => one_word(line, TARGET),
-        4 => two_words(line, TABLE),
-        5 => branch_line(line),
-        6 => symbol_line(line, FUNCTION),
-        7 => symbol_line(line, OBJECT),
-        8 => two_words(line, SKIP),
-        9 => one_word(line, ENTRY),
-        _ => no_frame(),
+        1 => of_digits(line, SECTION, 2, 8, 8),
+        2 => {
+            if line.len() == 10 {
+                return of_digits(line, WORD, 8, 0, 0);
+            }
+            of_digits(line, CODE_WORD, 8, 2, 2)
+        }
+        3 => of_digits(line, TARGET, 8, 0, 0),
+        4 => of_digits(line, TABLE, 8, 8, 0),
+        5 => of_digits(line, BRANCH, 2, 2, 8),
+        6 => of_digits(line, FUNCTION, 8, 8, 2),
+        7 => of_digits(line, OBJECT, 8, 8, 2),
+        8 => of_digits(line, SKIP, 8, 8, 0),
+        9 => of_digits(line, ENTRY, 8, 0, 0),
+        _ => of_digits(line, NO_FRAME, 0, 0, 0),
     }
 }
 

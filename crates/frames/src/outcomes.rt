@@ -4,9 +4,6 @@ ghost use Prim.Native.Nat.{_+_, _≤_};
 ghost use lib.ListN.{length, take};
 ghost use Rattle.frames.specs.LastRows.{Told, Now, last-is, set-target, set-table, with-branch, add-branch};
 ghost use Rattle.frames.specs.LastRows as ends;
-use crate::words::back;
-use crate::words::set_back;
-use crate::words::set_pair;
 
 // Whether there is a last code word, and its outcome is of this kind.
 fn last_is(outcomes: &[u32], count: usize, kind: u32) -> bool
@@ -16,18 +13,18 @@ fn last_is(outcomes: &[u32], count: usize, kind: u32) -> bool
     if count < 6 {
         return false;
     }
-    back(outcomes, count, 6) == kind
+    outcomes[count - 6] == kind
 }
 
 // Where the last code word jumps to; false where it is no jump.
-pub fn set_target(outcomes: &mut [u32], count: usize, a: u32) -> bool
+pub fn set_target(outcomes: &mut [u32], count: usize, target: u32) -> bool
     requires { ⌜ count ≤ length (now outcomes) ⌝ }
     ensures { λ r.
         ⌜ Told count (now (outcomes .entry)) (now (outcomes .exit)) r
-        (set-target a (take count (now (outcomes .entry)))) ⌝ }
+        (set-target target (take count (now (outcomes .entry)))) ⌝ }
 {
     if last_is(outcomes, count, 4) {
-        set_back(outcomes, count, 4, a);
+        outcomes[count - 4] = target;
         return true;
     }
     false
@@ -41,7 +38,8 @@ pub fn set_table(outcomes: &mut [u32], count: usize, a: u32, size: u32) -> bool
         (set-table a size (take count (now (outcomes .entry)))) ⌝ }
 {
     if last_is(outcomes, count, 5) {
-        set_pair(outcomes, count, 4, 3, a, size);
+        outcomes[count - 4] = a;
+        outcomes[count - 3] = size;
         return true;
     }
     false
@@ -54,15 +52,17 @@ fn with_branch(outcomes: &mut [u32], count: usize, way: u32, a: u32)
         ⌜ Now count (now (outcomes .entry)) (now (outcomes .exit))
         (with-branch way a (take count (now (outcomes .entry)))) ⌝ }
 {
-    if back(outcomes, count, 4) == 0 {
-        set_pair(outcomes, count, 4, 3, way, a);
+    if outcomes[count - 4] == 0 {
+        outcomes[count - 4] = way;
+        outcomes[count - 3] = a;
         return;
     }
-    if back(outcomes, count, 2) == 0 {
-        set_pair(outcomes, count, 2, 1, way, a);
+    if outcomes[count - 2] == 0 {
+        outcomes[count - 2] = way;
+        outcomes[count - 1] = a;
         return;
     }
-    set_back(outcomes, count, 2, 4);
+    outcomes[count - 2] = 4;
 }
 
 // The next branch of the last code word; false where it has no branches.

@@ -6,33 +6,6 @@ ghost use Rattle.frames.specs.LastRows as ends;
 ghost use Rattle.frames.specs.LastRows.{Now, PutWord, WordAdded};
 use crate::rows::Count;
 
-// The number `place` places from the end of the first `count`, 1 the last.
-pub fn back(xs: &[u32], count: usize, place: usize) -> u32
-    requires { ⌜ (1 ≤ place) × (place ≤ count) × (count ≤ length (now xs)) ⌝ }
-    ensures { λ r. ⌜ r ≡ ends.back (take count (now (xs .entry))) place ⌝ }
-{
-    xs[count - place]
-}
-
-pub fn set_back(xs: &mut [u32], count: usize, place: usize, value: u32)
-    requires { ⌜ (1 ≤ place) × (place ≤ count) × (count ≤ length (now xs)) ⌝ }
-    ensures { λ _.
-        ⌜ Now count (now (xs .entry)) (now (xs .exit)) (ends.set-back (take count (now (xs .entry))) place value) ⌝ }
-{
-    xs[count - place] = value;
-}
-
-// Two numbers of the last row.
-pub fn set_pair(xs: &mut [u32], count: usize, place: usize, j: usize, value: u32, w: u32)
-    requires { ⌜ (1 ≤ place) × (place ≤ count) × (1 ≤ j) × (j ≤ count) × (count ≤ length (now xs)) ⌝ }
-    ensures { λ _.
-        ⌜ Now count (now (xs .entry)) (now (xs .exit))
-        (ends.set-back (ends.set-back (take count (now (xs .entry))) place value) j w) ⌝ }
-{
-    set_back(xs, count, place, value);
-    set_back(xs, count, j, w);
-}
-
 // 0 for no section, 1 for one of code, 2 for another.
 pub fn last_kind(sections: &[u32], count: usize) -> u32
     requires { ⌜ count ≤ length (now sections) ⌝ }
@@ -41,7 +14,7 @@ pub fn last_kind(sections: &[u32], count: usize) -> u32
     if count < 4 {
         return 0;
     }
-    if back(sections, count, 4) == 1 {
+    if sections[count - 4] == 1 {
         return 1;
     }
     2
@@ -64,7 +37,7 @@ pub fn add_word(sections: &mut [u32], count: usize, bytes: &mut [u8], m: usize, 
         ⌜ WordAdded count m w (now (sections .entry)) (now (sections .exit)) (now (bytes .entry)) (now (bytes .exit))
         r ⌝ }
 {
-    let given = back(sections, count, 1);
+    let given = sections[count - 1];
     if given > 0xEFFF_FFFC {
         return Count {
             ok: false,
@@ -78,7 +51,7 @@ pub fn add_word(sections: &mut [u32], count: usize, bytes: &mut [u8], m: usize, 
         };
     }
     put_word(bytes, m, w);
-    set_back(sections, count, 1, given + 4);
+    sections[count - 1] = given + 4;
     Count {
         ok: true,
         count: m + 4,

@@ -4,6 +4,7 @@ use mathlib.Core.List.{List}
 use mathlib.Core.Bool.{Bool, true, false}
 use mathlib.Core.Option.{Option, none, some}
 use Prim.Native.Nat.{ℕ, _<_, _≤_}
+use native.Mathlib.Decide.{decLt}
 use native.Mathlib.Omega.{arith}
 use lib.Dec.{eqb}
 use lib.ListN.{length}
@@ -12,7 +13,7 @@ use Rattle.rules.specs.Choice.{if}
 use Rattle.frames.specs.declared.line.Frame.{Frame}
 use Rattle.frames.specs.Struct.{of-kind, frame-of}
 use Rattle.reading.specs.PutFrame.{put-line}
-use Rattle.reading.specs.View.{lists, view, room, Fit, FramePut, GivenPut, ImagePut}
+use Rattle.reading.specs.View.{lists, view, room, Fit, Parted, refused, FramePut, GivenPut, ImagePut}
 use Rattle.reading.specs.declared.state.Reading.{Reading}
 
 -- a kind that no frame has
@@ -31,9 +32,9 @@ no-kind k a b c h =
     (rw (ne-eqb k 10 (λ e. omega arith)))))))))))
 
 module _ (x : Frame) (r : Reading) (s b o f j k e : List ℕ) (fit : Fit r s b o f j k e) where
-  refused : (same : none ≡ if (r .ok) (put-line (room s b o f j k e) (frame-of x) (lists r s b o f j k e)) none) → FramePut x r record { ok = false; sections = r .sections; bytes = r .bytes; outcomes = r .outcomes; functions = r .functions; objects = r .objects; skips = r .skips; entry = r .entry } s s b b o o f f j j k k e e
+  nothing-put : (same : none ≡ if (r .ok) (put-line (room s b o f j k e) (frame-of x) (lists r s b o f j k e)) none) → FramePut x r (refused r) s s b b o o f f j j k k e e
   unfolding view if
-  refused same =
+  nothing-put same =
       record {
         size-s = refl;
         size-b = refl;
@@ -46,17 +47,29 @@ module _ (x : Frame) (r : Reading) (s b o f j k e : List ℕ) (fit : Fit r s b o
         same = same;
       }
 
-  pub put-before : r .ok ≡ false → FramePut x r record { ok = false; sections = r .sections; bytes = r .bytes; outcomes = r .outcomes; functions = r .functions; objects = r .objects; skips = r .skips; entry = r .entry } s s b b o o f f j j k k e e
+  pub put-before : r .ok ≡ false → FramePut x r (refused r) s s b b o o f f j j k k e e
   unfolding if
-  put-before h = refused (rw h refl)
+  put-before h = nothing-put (rw h refl)
 
-  pub put-none : r .ok ≡ true → x .kind < 1 → FramePut x r record { ok = false; sections = r .sections; bytes = r .bytes; outcomes = r .outcomes; functions = r .functions; objects = r .objects; skips = r .skips; entry = r .entry } s s b b o o f f j j k k e e
+  pub put-none : r .ok ≡ true → x .kind < 1 → FramePut x r (refused r) s s b b o o f f j j k k e e
   unfolding of-kind put-line if
-  put-none h z = let w : x .kind ≡ 0 = omega arith in refused (rw h (rw w refl))
+  put-none h z = let w : x .kind ≡ 0 = omega arith in nothing-put (rw h (rw w refl))
 
-  pub put-other : r .ok ≡ true → 10 < x .kind → FramePut x r record { ok = false; sections = r .sections; bytes = r .bytes; outcomes = r .outcomes; functions = r .functions; objects = r .objects; skips = r .skips; entry = r .entry } s s b b o o f f j j k k e e
+  pub put-other : r .ok ≡ true → 10 < x .kind → FramePut x r (refused r) s s b b o o f f j j k k e e
   unfolding put-line if
-  put-other h z = refused (rw h (rw (no-kind (x .kind) (x .first) (x .second) (x .third) z) refl))
+  put-other h z = nothing-put (rw h (rw (no-kind (x .kind) (x .first) (x .second) (x .third) z) refl))
+
+  -- a frame that belongs nowhere
+  pub put-nowhere : (p : ℕ) → Parted (r .ok) (x .kind) p → (p ≡ 1 → ⊥) → (p ≡ 2 → ⊥) → (p ≡ 3 → ⊥) → FramePut x r (refused r) s s b b o o f f j j k k e e
+  put-nowhere p w n1 n2 n3 = of-ok (r .ok) refl
+    where
+      of-kind-none : r .ok ≡ true → Dec (x .kind < 1) → FramePut x r (refused r) s s b b o o f f j j k k e e
+      of-kind-none h (yes z) = put-none h z
+      of-kind-none h (no z) = put-other h (w .nowhere n1 n2 n3 h (omega arith))
+
+      of-ok : (t : Bool) → r .ok ≡ t → FramePut x r (refused r) s s b b o o f f j j k k e e
+      of-ok true h = of-kind-none h (decLt (x .kind) 1)
+      of-ok false h = put-before h
 
   pub put-parts : r .ok ≡ true → (q : Reading) (s′ b′ o′ : List ℕ) → ImagePut x r q s s′ b b′ o o′ → FramePut x r q s s′ b b′ o o′ f f j j k k e e
   unfolding if

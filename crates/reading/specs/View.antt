@@ -1,8 +1,9 @@
 -- The lists that stand in the first numbers of the lent ones.
 use mathlib.Core.Path.{_≡_}
+use mathlib.Core.Bool.{Bool, true, false}
 use mathlib.Core.List.{List}
 use mathlib.Core.Option.{Option, none, some}
-use Prim.Native.Nat.{ℕ, _≤_}
+use Prim.Native.Nat.{ℕ, _<_, _≤_}
 use lib.ListN.{length, take}
 use Rattle.rules.specs.Choice.{if}
 use Rattle.obj_image.specs.Lent.{Lent, lent}
@@ -95,6 +96,27 @@ pub record Fit (r : Reading) (s b o f j k e : List ℕ) : Type 0 where
   pub within-j : r .objects ≤ length j
   pub within-k : r .skips ≤ length k
   pub within-e : r .entry ≤ length e
+
+-- where a frame of this kind belongs while all is well: 1 the image, 2 what is given beside it, 3 a code word; else nowhere
+pub record Parted (t : Bool) (k p : ℕ) : Type 0 where
+  pub image : p ≡ 1 → (t ≡ true) × (1 ≤ k) × (k ≤ 5)
+  pub given : p ≡ 2 → (t ≡ true) × (6 ≤ k) × (k ≤ 9)
+  pub code : p ≡ 3 → (t ≡ true) × (k ≡ 10)
+  pub nowhere : (p ≡ 1 → ⊥) → (p ≡ 2 → ⊥) → (p ≡ 3 → ⊥) → t ≡ true → 1 ≤ k → 10 < k
+
+-- the lists are no longer spoken of
+abbrev pub refused : Reading → Reading
+refused r =
+    record {
+      ok = false;
+      sections = r .sections;
+      bytes = r .bytes;
+      outcomes = r .outcomes;
+      functions = r .functions;
+      objects = r .objects;
+      skips = r .skips;
+      entry = r .entry;
+    }
 
 -- a frame put into the lists: what was to be read before is read on, if there was anything
 pub record FramePut (x : Frame) (r q : Reading) (s s′ b b′ o o′ f f′ j j′ k k′ e e′ : List ℕ) : Type 0 where

@@ -26,27 +26,33 @@ pub fn put_given(
         ⌜ GivenPut f r q (now (functions .entry)) (now (functions .exit)) (now (objects .entry)) (now (objects .exit))
         (now (skips .entry)) (now (skips .exit)) (now (entry .entry)) (now (entry .exit)) ⌝ }
 {
+    let row: [u32; 3] = [f.first, f.second, f.third];
     let mut q = r;
-    if f.kind == 6 {
-        let c = frames::rows::add_three(functions, r.functions, 3072, f.first, f.second, f.third);
-        q.ok = c.ok;
-        q.functions = c.count;
-        return q;
+    let kind = f.kind;
+    match kind {
+        6 => {
+            let c = frames::rows::add_row(functions, r.functions, 3072, &row, 3);
+            q.ok = c.ok;
+            q.functions = c.count;
+            q
+        }
+        7 => {
+            let c = frames::rows::add_row(objects, r.objects, 3072, &row, 3);
+            q.ok = c.ok;
+            q.objects = c.count;
+            q
+        }
+        8 => {
+            let c = frames::rows::add_row(skips, r.skips, 128, &row, 2);
+            q.ok = c.ok;
+            q.skips = c.count;
+            q
+        }
+        _ => {
+            let c = frames::rows::add_row(entry, r.entry, 1, &row, 1);
+            q.ok = c.ok;
+            q.entry = c.count;
+            q
+        }
     }
-    if f.kind == 7 {
-        let c = frames::rows::add_three(objects, r.objects, 3072, f.first, f.second, f.third);
-        q.ok = c.ok;
-        q.objects = c.count;
-        return q;
-    }
-    if f.kind == 8 {
-        let c = frames::rows::add_two(skips, r.skips, 128, f.first, f.second);
-        q.ok = c.ok;
-        q.skips = c.count;
-        return q;
-    }
-    let c = frames::rows::add_one(entry, r.entry, 1, f.first);
-    q.ok = c.ok;
-    q.entry = c.count;
-    q
 }

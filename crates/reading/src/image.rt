@@ -50,7 +50,8 @@ pub fn put_code_word(
     let mut q = put_word(r, sections, bytes, f.first, 1);
     if q.ok {
         if r.outcomes <= 6138 {
-            let c = frames::rows::add_six(outcomes, r.outcomes, 6138, f.second, f.third);
+            let row: [u32; 6] = [f.second, f.third, 0, 0, 0, 0];
+            let c = frames::rows::add_row(outcomes, r.outcomes, 6138, &row, 6);
             q.ok = c.ok;
             q.outcomes = c.count;
             return q;
@@ -68,16 +69,21 @@ fn put_told(r: Reading, outcomes: &mut [u32; 6144], f: Frame) -> Reading
     ensures { λ q. ⌜ ToldPut f r q (now (outcomes .entry)) (now (outcomes .exit)) ⌝ }
 {
     let mut q = r;
-    if f.kind == 3 {
-        q.ok = frames::outcomes::set_target(outcomes, r.outcomes, f.first);
-        return q;
+    let kind = f.kind;
+    match kind {
+        3 => {
+            q.ok = frames::outcomes::set_target(outcomes, r.outcomes, f.first);
+            q
+        }
+        4 => {
+            q.ok = frames::outcomes::set_table(outcomes, r.outcomes, f.first, f.second);
+            q
+        }
+        _ => {
+            q.ok = frames::outcomes::add_branch(outcomes, r.outcomes, f.first, f.second, f.third);
+            q
+        }
     }
-    if f.kind == 4 {
-        q.ok = frames::outcomes::set_table(outcomes, r.outcomes, f.first, f.second);
-        return q;
-    }
-    q.ok = frames::outcomes::add_branch(outcomes, r.outcomes, f.first, f.second, f.third);
-    q
 }
 
 // A section, a word that is not of code, or what the last code word does.
@@ -97,15 +103,17 @@ pub fn put_image(
         ⌜ ImagePut f r q (now (sections .entry)) (now (sections .exit)) (now (bytes .entry)) (now (bytes .exit))
         (now (outcomes .entry)) (now (outcomes .exit)) ⌝ }
 {
-    if f.kind == 1 {
-        let c = frames::rows::add_four(sections, r.sections, 32, f.first, f.second, f.third, 0);
-        let mut q = r;
-        q.ok = c.ok;
-        q.sections = c.count;
-        return q;
+    let kind = f.kind;
+    match kind {
+        1 => {
+            let row: [u32; 4] = [f.first, f.second, f.third, 0];
+            let c = frames::rows::add_row(sections, r.sections, 32, &row, 4);
+            let mut q = r;
+            q.ok = c.ok;
+            q.sections = c.count;
+            q
+        }
+        2 => put_word(r, sections, bytes, f.first, 2),
+        _ => put_told(r, outcomes, f),
     }
-    if f.kind == 2 {
-        return put_word(r, sections, bytes, f.first, 2);
-    }
-    put_told(r, outcomes, f)
 }
