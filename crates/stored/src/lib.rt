@@ -1,8 +1,8 @@
 // A function's lists as numbers, one column after the other, in a lent list.
 ghost use mathlib.Core.Path.{_≡_};
 ghost use mathlib.Core.List.{_++_};
-ghost use Prim.Native.Nat.{_+_, _≤_};
-ghost use lib.ListN.{length, take, replicate};
+ghost use Prim.Native.Nat.{_+_, _-_, _≤_};
+ghost use lib.ListN.{length, take, drop, replicate};
 ghost use Rattle.rules.specs.OneFunction.{numbers};
 ghost use Rattle.function_slices.specs.View.{view, Fit};
 ghost use Rattle.stored.specs.Laid.{Laid, Stored, flow, others};
@@ -17,24 +17,40 @@ pub fn size(keys: &[u64], values: &[u64], slices: function_slices::Small) -> usi
     2 * rows + slices.function_references + slices.possible_blocks
 }
 
-// The first `count` elements of a column, from at on; the place past them.
-fn put_column(out: &mut [u64], at: usize, xs: &[u64], count: usize) -> usize
-    requires { ⌜ (count ≤ length (now xs)) × (at + count ≤ length (now out)) ⌝ }
-    ensures { λ r. ⌜ Laid (take count (now (xs .entry))) (now (out .entry)) at (now (out .exit)) r ⌝ }
+// The first `count` elements of the column that stands in xs from a up to b, from at on; the place past them.
+fn put_column(out: &mut [u64], at: usize, xs: &[u64], a: usize, b: usize, count: usize) -> usize
+    requires there { ⌜ (a ≤ b) × (b ≤ length (now xs)) ⌝ }
+    requires fit { ⌜ (count ≤ length (take (b - a) (drop a (now xs)))) × (at + count ≤ length (now out)) ⌝ }
+    ensures { λ r.
+        ⌜ Laid (take count (take (b - a) (drop a (now (xs .entry))))) (now (out .entry)) at (now (out .exit)) r ⌝ }
 {
-    runs::copy_in(out, at, xs, count);
+    runs::copy_in(out, at, &xs[a..b], count);
     at + count
 }
 
 // Those of two columns, one after the other.
-fn put_columns(out: &mut [u64], at: usize, xs: &[u64], ys: &[u64], count: usize) -> usize
-    requires { ⌜ (count ≤ length (now xs)) × (count ≤ length (now ys)) × (at + count + count ≤ length (now out)) ⌝ }
+fn put_columns(
+    out: &mut [u64],
+    at: usize,
+    xs: &[u64],
+    a: usize,
+    b: usize,
+    ys: &[u64],
+    c: usize,
+    d: usize,
+    count: usize,
+) -> usize
+    requires there { ⌜ (a ≤ b) × (b ≤ length (now xs)) × (c ≤ d) × (d ≤ length (now ys)) ⌝ }
+    requires fit { ⌜ (count ≤ length (take (b - a) (drop a (now xs)))) ×
+        (count ≤ length (take (d - c) (drop c (now ys)))) ×
+        (at + count + count ≤ length (now out)) ⌝ }
     ensures { λ r.
-        ⌜ Laid (take count (now (xs .entry)) ++ take count (now (ys .entry))) (now (out .entry)) at (now (out .exit))
-        r ⌝ }
+        ⌜ Laid
+        (take count (take (b - a) (drop a (now (xs .entry)))) ++ take count (take (d - c) (drop c (now (ys .entry)))))
+        (now (out .entry)) at (now (out .exit)) r ⌝ }
 {
-    let b = put_column(out, at, xs, count);
-    put_column(out, b, ys, count)
+    let p = put_column(out, at, xs, a, b, count);
+    put_column(out, p, ys, c, d, count)
 }
 
 // The blocks and the ways on.
@@ -54,8 +70,8 @@ fn put_flow(
     let a: usize = places::AT_BLOCKS;
     let b: usize = places::AT_BRANCHES;
     let c: usize = places::AT_REFERENCES;
-    let p = put_columns(out, at, &keys[a..b], &values[a..b], slices.blocks);
-    put_columns(out, p, &keys[b..c], &values[b..c], slices.branches)
+    let p = put_columns(out, at, keys, a, b, values, a, b, slices.blocks);
+    put_columns(out, p, keys, b, c, values, b, c, slices.branches)
 }
 
 // The references, the jump tables and the possible blocks.
@@ -76,15 +92,10 @@ fn put_others(
     let b: usize = places::AT_TABLES;
     let c: usize = places::AT_POSSIBLE;
     let d: usize = places::AT_PENDING;
-    let p = put_column(out, at, &keys[a..b], slices.function_references);
-    let q = put_columns(
-        out,
-        p,
-        &keys[b..c],
-        &values[a..b],
-        slices.jump_table_references,
-    );
-    put_column(out, q, &keys[c..d], slices.possible_blocks)
+    let n = slices.jump_table_references;
+    let p = put_column(out, at, keys, a, b, slices.function_references);
+    let q = put_columns(out, p, keys, b, c, values, a, b, n);
+    put_column(out, q, keys, c, d, slices.possible_blocks)
 }
 
 // All of them from at on, and whether they fit; where they do not, nothing is changed.
