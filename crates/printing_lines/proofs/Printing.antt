@@ -1,11 +1,11 @@
 -- What is printed one after the other is printed as one.
-use mathlib.Core.Path.{_≡_, refl, sym, ap, ap₂, _∙_}
+use mathlib.Core.Path.{_≡_, refl, sym, subst, ap, ap₂, _∙_}
 use mathlib.Core.List.{List, [], _∷_, _++_, append-nil}
 use Prim.Native.Nat.{ℕ, suc, _+_, _<_, _≤_}
 use native.Mathlib.Numerals.{add-one}
 use native.Mathlib.Omega.{arith}
-use lib.ListN.{length, take, drop, set, length-append, length-set, take-append-drop}
-use lib.Seq.{set-split, append-snoc}
+use lib.ListN.{length, take, drop, getD, set, length-append, length-drop, length-set, take-append-drop, drop-of-length-le}
+use lib.Seq.{set-split, append-snoc, drop-cons}
 use Rattle.stored.specs.Laid.{laid}
 use Rattle.stored.proofs.Laying.{laid-on}
 use Rattle.printing_lines.specs.Printed.{Room, Printed}
@@ -67,3 +67,20 @@ module _ {whole out₀ : List ℕ} {at₀ : ℕ} {out : List ℕ} {at : ℕ} whe
 
   pub going-ends : Going [] whole out₀ at₀ out at → Printed whole out₀ at₀ out at
   going-ends g = g .makes out at (printed-none out at (omega (arith, g .room .fits)))
+
+-- bytes of a list, one after the other
+module _ {bytes out₀ : List ℕ} {at : ℕ} {out : List ℕ} {i : ℕ} (g : Going (drop i bytes) bytes out₀ at out (at + i)) where
+  pub byte-fits : i < length bytes → at + i < length out
+  byte-fits h = omega (arith, g .room .fits, length-drop i bytes)
+
+  pub bytes-next : i < length bytes → Going (drop (i + 1) bytes) bytes out₀ at (set out (at + i) (getD bytes i 0)) (at + (i + 1))
+  bytes-next h =
+      let e : drop i bytes ≡ (getD bytes i 0 ∷ []) ++ drop (i + 1) bytes = drop-cons bytes i 0 h ∙ ap (λ (j : ℕ). getD bytes i 0 ∷ drop j bytes) (sym (add-one i)) in
+      let p : at + i + 1 ≡ at + (i + 1) = omega arith in
+      rw p at (going-on (rw e at g) (printed-byte out (at + i) (getD bytes i 0) (byte-fits h)))
+
+  pub bytes-end : length bytes ≤ i → Printed bytes out₀ at out (at + i)
+  bytes-end h = going-ends (rw (drop-of-length-le bytes {i = i} h) at g)
+
+pub bytes-first : (bytes out : List ℕ) (at : ℕ) → Room bytes out at → Going (drop 0 bytes) bytes out at out (at + 0)
+bytes-first bytes out at h = subst (λ (k : ℕ). Going bytes bytes out at out k) (omega arith) (going-first bytes out at h)

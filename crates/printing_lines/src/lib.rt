@@ -15,6 +15,18 @@ fn put_byte(out: &mut [u8], at: usize, b: u8) -> usize
     at + 1
 }
 
+fn put_bytes(out: &mut [u8], at: usize, bytes: &[u8]) -> usize
+    requires { ⌜ Room (now bytes) (now out) at ⌝ }
+    ensures { λ r. ⌜ Printed (now (bytes .entry)) (now (out .entry)) at (now (out .exit)) r ⌝ }
+{
+    let mut i: usize = 0;
+    while i < bytes.len() {
+        out[at + i] = bytes[i];
+        i += 1;
+    }
+    at + i
+}
+
 // ---- numbers
 
 fn digit(d: u64) -> u8
@@ -27,36 +39,30 @@ fn digit(d: u64) -> u8
     55 + d as u8
 }
 
-// The lowest two digits of a number; then four; then eight.
-fn put_two_digits(out: &mut [u8], at: usize, x: u64) -> usize
-    requires { ⌜ Room (rules.hex 2 x) (now out) at ⌝ }
-    ensures { λ r. ⌜ Printed (rules.hex 2 x) (now (out .entry)) at (now (out .exit)) r ⌝ }
+// A space and the lowest eight digits of a number.
+fn put_number(out: &mut [u8], at: usize, x: u64) -> usize
+    requires { ⌜ Room (32 ∷ rules.hex 8 x) (now out) at ⌝ }
+    ensures { λ r. ⌜ Printed (32 ∷ rules.hex 8 x) (now (out .entry)) at (now (out .exit)) r ⌝ }
 {
-    let p = put_byte(out, at, digit(x / 16 % 16));
-    put_byte(out, p, digit(x % 16))
-}
-
-fn put_four_digits(out: &mut [u8], at: usize, x: u64) -> usize
-    requires { ⌜ Room (rules.hex 4 x) (now out) at ⌝ }
-    ensures { λ r. ⌜ Printed (rules.hex 4 x) (now (out .entry)) at (now (out .exit)) r ⌝ }
-{
-    let p = put_two_digits(out, at, x / 16 / 16);
-    put_two_digits(out, p, x)
-}
-
-fn put_eight_digits(out: &mut [u8], at: usize, x: u64) -> usize
-    requires { ⌜ Room (rules.hex 8 x) (now out) at ⌝ }
-    ensures { λ r. ⌜ Printed (rules.hex 8 x) (now (out .entry)) at (now (out .exit)) r ⌝ }
-{
-    let p = put_four_digits(out, at, x / 16 / 16 / 16 / 16);
-    put_four_digits(out, p, x)
-}
-
-fn put_address(out: &mut [u8], at: usize, key: u64) -> usize
-    requires { ⌜ Room (rules.address key) (now out) at ⌝ }
-    ensures { λ r. ⌜ Printed (rules.address key) (now (out .entry)) at (now (out .exit)) r ⌝ }
-{
-    put_eight_digits(out, at, key % 0x1_0000_0000)
+    let a = x / 16;
+    let b = a / 16;
+    let c = b / 16;
+    let d = c / 16;
+    let e = d / 16;
+    let f = e / 16;
+    let g = f / 16;
+    let row: [u8; 9] = [
+        32,
+        digit(g % 16),
+        digit(f % 16),
+        digit(e % 16),
+        digit(d % 16),
+        digit(c % 16),
+        digit(b % 16),
+        digit(a % 16),
+        digit(x % 16),
+    ];
+    put_bytes(out, at, &row)
 }
 
 // A space and an address.
@@ -64,8 +70,7 @@ fn put_spaced(out: &mut [u8], at: usize, key: u64) -> usize
     requires { ⌜ Room (32 ∷ rules.address key) (now out) at ⌝ }
     ensures { λ r. ⌜ Printed (32 ∷ rules.address key) (now (out .entry)) at (now (out .exit)) r ⌝ }
 {
-    let p = put_byte(out, at, 32);
-    put_address(out, p, key)
+    put_number(out, at, key % 0x1_0000_0000)
 }
 
 // A space and an address, or a dash for none.
@@ -74,19 +79,10 @@ fn put_spaced_or_dash(out: &mut [u8], at: usize, key: u64) -> usize
     ensures { λ r. ⌜ Printed (32 ∷ rules.address-or-dash key) (now (out .entry)) at (now (out .exit)) r ⌝ }
 {
     if key == 0 {
-        let p = put_byte(out, at, 32);
-        return put_byte(out, p, 45);
+        let row: [u8; 2] = [32, 45];
+        return put_bytes(out, at, &row);
     }
     put_spaced(out, at, key)
-}
-
-// A space and eight digits.
-fn put_spaced_number(out: &mut [u8], at: usize, x: u64) -> usize
-    requires { ⌜ Room (32 ∷ rules.hex 8 x) (now out) at ⌝ }
-    ensures { λ r. ⌜ Printed (32 ∷ rules.hex 8 x) (now (out .entry)) at (now (out .exit)) r ⌝ }
-{
-    let p = put_byte(out, at, 32);
-    put_eight_digits(out, p, x)
 }
 
 // ---- lines of one or two numbers
@@ -105,16 +101,12 @@ fn put_second(out: &mut [u8], at: usize, tag: u8, b: u64) -> usize
     requires { ⌜ Room (columns.second tag b) (now out) at ⌝ }
     ensures { λ r. ⌜ Printed (columns.second tag b) (now (out .entry)) at (now (out .exit)) r ⌝ }
 {
-    if tag == 66 {
-        return put_spaced_or_dash(out, at, b);
+    match tag {
+        66 => put_spaced_or_dash(out, at, b),
+        67 => put_spaced(out, at, b),
+        74 => put_number(out, at, b),
+        _ => at,
     }
-    if tag == 67 {
-        return put_spaced(out, at, b);
-    }
-    if tag == 74 {
-        return put_spaced_number(out, at, b);
-    }
-    at
 }
 
 pub fn put_line(out: &mut [u8], at: usize, tag: u8, a: u64, b: u64) -> usize
@@ -166,11 +158,8 @@ fn put_flags(out: &mut [u8], at: usize, c: bool, i: bool, l: bool) -> usize
     requires { ⌜ Room (columns.flags c i l) (now out) at ⌝ }
     ensures { λ r. ⌜ Printed (columns.flags c i l) (now (out .entry)) at (now (out .exit)) r ⌝ }
 {
-    let p = put_byte(out, at, 32);
-    let q = put_byte(out, p, flag(c));
-    let r = put_byte(out, q, flag(i));
-    let s = put_byte(out, r, flag(l));
-    put_byte(out, s, 10)
+    let row: [u8; 5] = [32, flag(c), flag(i), flag(l), 10];
+    put_bytes(out, at, &row)
 }
 
 // A function: entry, end, prologue and epilogue, and whether it has a conditional `blr`, an `rfi`, a load of r1.
@@ -204,9 +193,12 @@ pub fn put_answer(out: &mut [u8], at: usize, answer: u32) -> usize
     requires room { ⌜ Room (rules.line-R answer ++ (10 ∷ [])) (now out) at ⌝ }
     ensures { λ r. ⌜ Printed (rules.line-R answer ++ (10 ∷ [])) (now (out .entry)) at (now (out .exit)) r ⌝ }
 {
-    let p = put_byte(out, at, 82);
-    let q = put_byte(out, p, 32);
-    let r = put_byte(out, q, 48 + (answer / 10) as u8);
-    let s = put_byte(out, r, 48 + (answer % 10) as u8);
-    put_byte(out, s, 10)
+    let row: [u8; 5] = [
+        82,
+        32,
+        48 + (answer / 10) as u8,
+        48 + (answer % 10) as u8,
+        10,
+    ];
+    put_bytes(out, at, &row)
 }
