@@ -1,8 +1,7 @@
 // A text of frames, one to a line, read into the lent lists that stand for an image.
 ghost use Prim.Native.Nat.{_<_};
 ghost use lib.ListN.{length};
-ghost use Rattle.reading.specs.View.{Fit};
-ghost use Rattle.texts.specs.Texts.{Ends, LinePut, TextRead};
+ghost use Rattle.texts.specs.Texts.{Ends, TextRead};
 use reading::state::Reading;
 
 // Where the line that begins at a place ends: at the next newline, or with the text.
@@ -18,39 +17,6 @@ fn line_end(text: &[u8], from: usize) -> usize
         i += 1;
     }
     i
-}
-
-// One line put into the lists.
-fn read_line(
-    r: Reading,
-    line: &[u8],
-    sections: &mut [u32; 36],
-    bytes: &mut [u8; 393216],
-    outcomes: &mut [u32; 6144],
-    functions: &mut [u32; 3075],
-    objects: &mut [u32; 3075],
-    skips: &mut [u32; 130],
-    entry: &mut [u32; 2],
-) -> Reading
-    requires { ⌜ Fit r (now sections) (now bytes) (now outcomes) (now functions) (now objects) (now skips) (now entry) ⌝ }
-    ensures { λ q.
-        ⌜ LinePut (now (line .entry)) r q (now (sections .entry)) (now (sections .exit)) (now (bytes .entry))
-        (now (bytes .exit)) (now (outcomes .entry)) (now (outcomes .exit)) (now (functions .entry))
-        (now (functions .exit)) (now (objects .entry)) (now (objects .exit)) (now (skips .entry)) (now (skips .exit))
-        (now (entry .entry)) (now (entry .exit)) ⌝ }
-{
-    let f = frames::line::read_frame(line);
-    reading::put::put_frame(
-        r,
-        sections,
-        bytes,
-        outcomes,
-        functions,
-        objects,
-        skips,
-        entry,
-        f,
-    )
 }
 
 // The lines of a text put into the lists one after the other, up to the first that is no frame or does not belong there.
@@ -83,9 +49,9 @@ pub fn read_image(
     let mut at: usize = 0;
     while at < text.len() {
         let end = line_end(text, at);
-        r = read_line(
+        let f = frames::line::read_frame(&text[at..end]);
+        r = reading::put::put_frame(
             r,
-            &text[at..end],
             sections,
             bytes,
             outcomes,
@@ -93,6 +59,7 @@ pub fn read_image(
             objects,
             skips,
             entry,
+            f,
         );
         if r.ok {
             at = end + 1;

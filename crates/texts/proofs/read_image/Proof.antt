@@ -1,9 +1,9 @@
 use Prim.Native.Nat.{_+_, _-_}
-use mathlib.Core.Path.{_∙_}
 use native.Mathlib.Omega.{arith}
 use lib.ListN.{length}
 use borrow.Author.Needs.{needs}
-use Rattle.texts.proofs.Reading.{Going, going-first, going-ends, going-on, going-stops}
+use Rattle.frames.proofs.Ranges.{branch-small}
+use Rattle.texts.proofs.Reading.{line-put, Going, going-first, going-ends, going-on, going-stops}
 use Rattle.texts.proofs.read_image.Statement.{statement}
 use Rattle.texts.proofs.read_image.Tie as tie
 
@@ -18,20 +18,20 @@ abbrev μ-loop : tie.MeasureT-loop
 loop-holds : tie.Need-loop-holds Inv-loop μ-loop
 loop-holds c = going-first _ _ _ _ _ _ _ _
 
-read-line-requires : tie.Need-read-line-requires Inv-loop μ-loop
-read-line-requires c κs = c .before .before .before .before .before .before .before .before .before .before .loop .inv .kept .fit
+put-frame-requires : tie.Need-put-frame-requires Inv-loop μ-loop
+put-frame-requires c κs = (branch-small (c .before .before .before .before .before .before .before .read-frame .result) _ (c .before .before .before .before .before .before .before .read-frame .ensures), c .before .before .before .before .before .before .before .before .before .before .before .loop .inv .kept .fit)
 
 add-at : tie.Need-add-at Inv-loop μ-loop
-add-at c = let h = c .before .before .before .before .before .before .before .before .before .before .before .before .before .before .good in let i = c .before .before .before .before .before .before .before .before .before .before .line-end .ensures .high in omega (arith, h .0, i)
+add-at c = omega (arith, c .before .before .before .before .before .before .before .before .before .before .before .before .before .before .before .good .0, c .before .before .before .before .before .before .before .before .before .before .before .line-end .ensures .high)
 
 loop-less : tie.Need-loop-less Inv-loop μ-loop
-loop-less c = omega (arith, c .before .before .before .before .before .before .before .before .before .before .line-end .ensures .low, c .before .before .before .before .before .before .before .before .before .before .line-end .ensures .high)
+loop-less c = omega (arith, c .before .before .before .before .before .before .before .before .before .before .before .line-end .ensures .low, c .before .before .before .before .before .before .before .before .before .before .before .line-end .ensures .high)
 
 loop-again : tie.Need-loop-again Inv-loop μ-loop
-loop-again c = going-on _ _ _ _ _ _ _ _ _ _ _ _ _ _ _ _ _ (c .before .before .before .before .before .before .before .before .before .before .before .before .loop .inv) _ _ _ _ _ _ _ _ _ (c .before .before .before .before .before .before .before .before .before .before .line-end .ensures) (c .before .read-line .ensures)
+loop-again c = going-on _ _ _ _ _ _ _ _ _ _ _ _ _ _ _ _ _ (c .before .before .before .before .before .before .before .before .before .before .before .before .before .loop .inv) _ _ _ _ _ _ _ _ _ (c .before .before .before .before .before .before .before .before .before .before .before .line-end .ensures) (line-put _ (c .before .before .before .before .before .before .before .before .before .read-frame .result) _ _ _ _ _ _ _ _ _ _ _ _ _ _ _ _ (c .before .before .before .before .before .before .before .before .before .read-frame .ensures) (c .before .put-frame .ensures))
 
 returns : tie.Need-returns Inv-loop μ-loop
-returns c = going-stops _ _ _ _ _ _ _ _ _ _ _ _ _ _ _ _ _ (c .before .before .before .before .before .before .before .before .before .before .before .before .loop .inv) _ _ _ _ _ _ _ _ _ (c .before .before .before .before .before .before .before .before .before .before .line-end .ensures) (c .before .read-line .ensures) (c .if1 .left)
+returns c = going-stops _ _ _ _ _ _ _ _ _ _ _ _ _ _ _ _ _ (c .before .before .before .before .before .before .before .before .before .before .before .before .before .loop .inv) _ _ _ _ _ _ _ _ _ (c .before .before .before .before .before .before .before .before .before .before .before .line-end .ensures) (line-put _ (c .before .before .before .before .before .before .before .before .before .read-frame .result) _ _ _ _ _ _ _ _ _ _ _ _ _ _ _ _ (c .before .before .before .before .before .before .before .before .before .read-frame .ensures) (c .before .put-frame .ensures)) (c .if1 .left)
 
 returns-2 : tie.Need-returns-2 Inv-loop μ-loop
 returns-2 c = going-ends _ _ _ _ _ _ _ _ _ _ _ _ _ _ _ _ _ (c .before .loop .inv) (c .loop-test .left)
@@ -47,7 +47,8 @@ read-image-spec =
     (λ c. search needs)
     (λ c. search needs)
     (λ c. search needs)
-    read-line-requires
+    (λ c κs. search needs)
+    put-frame-requires
     add-at
     loop-less
     loop-again
