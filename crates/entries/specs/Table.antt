@@ -15,12 +15,10 @@ use Rattle.rules.specs.Map.{Capacity}
 use Rattle.rules.specs.OneFunction.{numbers}
 use Rattle.function_slices.specs.declared.Small.{Small}
 use Rattle.known.specs.Table.{known-rows, Kept, Knows}
+pub use Rattle.known.specs.Table.{KNOWN}
 use Rattle.entries.specs.Columns.{small-of, Right, numbers-long, slices-from}
 
--- how long the two slices of fixed length are: entries with their ends, and rows of eight
-abbrev pub KNOWN : ℕ
-KNOWN = 2048
-
+-- how long the slice of rows of eight is; that of entries with their ends is `KNOWN`
 abbrev pub INFOS : ℕ
 INFOS = 8192
 

@@ -21,7 +21,7 @@ ghost use Rattle.function_slices.specs.Places.{KEYS, VALUES};
 use function_slices::places;
 
 // How long the two slices of fixed length are: entries with their ends, and rows of eight.
-pub const KNOWN: usize = 2048;
+pub use known::KNOWN;
 
 pub const INFOS: usize = 8192;
 
@@ -32,11 +32,12 @@ fn is_odd(x: u64) -> bool
     x % 2 == 1
 }
 
-// A count as it is stored.
-fn count(x: u64) -> usize
-    ensures { λ r. ⌜ r ≡ x ⌝ }
+// A count as it is stored at p.
+fn count(infos: &[u64], p: usize) -> usize
+    requires { ⌜ p < length (now infos) ⌝ }
+    ensures { λ r. ⌜ r ≡ getD (now (infos .entry)) p 0 ⌝ }
 {
-    x as usize
+    infos[p] as usize
 }
 
 // The row from p on: the counts of a function's lists, and what is no list.
@@ -48,11 +49,11 @@ pub fn read_row(infos: &[u64], p: usize) -> function_slices::Small
     let g = f / 2;
     let h = g / 2;
     function_slices::Small {
-        blocks: count(infos[p + 3]),
-        branches: count(infos[p + 4]),
-        function_references: count(infos[p + 5]),
-        jump_table_references: count(infos[p + 6]),
-        possible_blocks: count(infos[p + 7]),
+        blocks: count(infos, p + 3),
+        branches: count(infos, p + 4),
+        function_references: count(infos, p + 5),
+        jump_table_references: count(infos, p + 6),
+        possible_blocks: count(infos, p + 7),
         prologue: infos[p + 1],
         epilogue: infos[p + 2],
         conditional: is_odd(f),
@@ -156,8 +157,9 @@ pub fn load(
     let room = lists.len();
     let at = offset(infos, i, room);
     let until = at + size(s, room);
-    put_keys(keys, &lists[at..until], s);
-    put_values(values, &lists[at..until], s);
+    let numbers = &lists[at..until];
+    put_keys(keys, numbers, s);
+    put_values(values, numbers, s);
     s
 }
 

@@ -11,48 +11,22 @@ size-requires : tie.Need-size-requires
 size-requires c κs = size-fits _ (c .before .before .before .before .before .before .before .args .known .now) _ _ _ (c .before .before .before .before .before .before .before .pre .0 .1) (c .before .before .before .before .before .before .before .pre .0 .0) _ (c .before .read-row .ensures)
 
 add-until : tie.Need-add-until
-add-until c = omega (arith, until-fits _ (c .before .before .before .before .before .before .before .before .args .known .now) _ _ _ (c .before .before .before .before .before .before .before .before .pre .0 .1) (c .before .before .before .before .before .before .before .before .pre .0 .0) _ (c .before .before .read-row .ensures) _ _ (c .before .offset .ensures) (c .size .ensures))
+add-until c = omega (arith, (until-fits _ (c .before .before .before .before .before .before .before .before .args .known .now) _ _ _ (c .before .before .before .before .before .before .before .before .pre .0 .1) (c .before .before .before .before .before .before .before .before .pre .0 .0) _ (c .before .before .read-row .ensures) _ _ (c .before .offset .ensures) (c .size .ensures)))
 
-mul-put-keys : tie.Need-mul-put-keys
-mul-put-keys c = omega (arith, until-fits _ (c .before .before .before .before .before .before .before .before .before .args .known .now) _ _ _ (c .before .before .before .before .before .before .before .before .before .pre .0 .1) (c .before .before .before .before .before .before .before .before .before .pre .0 .0) _ (c .before .before .before .read-row .ensures) _ _ (c .before .before .offset .ensures) (c .before .size .ensures))
+mul-numbers : tie.Need-mul-numbers
+mul-numbers c = omega (arith, (until-fits _ (c .before .before .before .before .before .before .before .before .args .known .now) _ _ _ (c .before .before .before .before .before .before .before .before .pre .0 .1) (c .before .before .before .before .before .before .before .before .pre .0 .0) _ (c .before .before .read-row .ensures) _ _ (c .before .offset .ensures) (c .size .ensures)))
 
-part-put-keys-end : tie.Need-part-put-keys-end
-part-put-keys-end c = omega (arith, until-fits _ (c .before .before .before .before .before .before .before .before .before .args .known .now) _ _ _ (c .before .before .before .before .before .before .before .before .before .pre .0 .1) (c .before .before .before .before .before .before .before .before .before .pre .0 .0) _ (c .before .before .before .read-row .ensures) _ _ (c .before .before .offset .ensures) (c .before .size .ensures))
+part-numbers-end : tie.Need-part-numbers-end
+part-numbers-end c = omega (arith, (until-fits _ (c .before .before .before .before .before .before .before .before .args .known .now) _ _ _ (c .before .before .before .before .before .before .before .before .pre .0 .1) (c .before .before .before .before .before .before .before .before .pre .0 .0) _ (c .before .before .read-row .ensures) _ _ (c .before .offset .ensures) (c .size .ensures)))
 
 put-keys-requires : tie.Need-put-keys-requires
 put-keys-requires c κs = (limits-are _ (c .before .before .before .before .before .before .before .before .before .before .args .known .now) _ _ _ (c .before .before .before .before .before .before .before .before .before .before .pre .0 .1) (c .before .before .before .before .before .before .before .before .before .before .pre .0 .0) _ (c .before .before .before .before .read-row .ensures), lent-long _ (c .before .before .before .before .before .before .before .before .before .before .args .known .now) _ _ _ (c .before .before .before .before .before .before .before .before .before .before .pre .0 .1) (c .before .before .before .before .before .before .before .before .before .before .pre .0 .0) _ (c .before .before .before .before .read-row .ensures) _ _ (c .before .before .before .offset .ensures) (c .before .before .size .ensures), c .before .before .before .before .before .before .before .before .before .before .pre .1 .0)
 
-mul-put-values : tie.Need-mul-put-values
-mul-put-values c = omega (arith, until-fits _ (c .before .before .before .before .before .before .before .before .before .before .before .before .before .before .args .known .now) _ _ _ (c .before .before .before .before .before .before .before .before .before .before .before .before .before .before .pre .0 .1) (c .before .before .before .before .before .before .before .before .before .before .before .before .before .before .pre .0 .0) _ (c .before .before .before .before .before .before .before .before .read-row .ensures) _ _ (c .before .before .before .before .before .before .before .offset .ensures) (c .before .before .before .before .before .before .size .ensures))
-
-part-put-values-end : tie.Need-part-put-values-end
-part-put-values-end c = omega (arith, until-fits _ (c .before .before .before .before .before .before .before .before .before .before .before .before .before .before .args .known .now) _ _ _ (c .before .before .before .before .before .before .before .before .before .before .before .before .before .before .pre .0 .1) (c .before .before .before .before .before .before .before .before .before .before .before .before .before .before .pre .0 .0) _ (c .before .before .before .before .before .before .before .before .read-row .ensures) _ _ (c .before .before .before .before .before .before .before .offset .ensures) (c .before .before .before .before .before .before .size .ensures))
-
 put-values-requires : tie.Need-put-values-requires
-put-values-requires c κs = (limits-are _ (c .before .before .before .before .before .before .before .before .before .before .before .before .before .before .before .args .known .now) _ _ _ (c .before .before .before .before .before .before .before .before .before .before .before .before .before .before .before .pre .0 .1) (c .before .before .before .before .before .before .before .before .before .before .before .before .before .before .before .pre .0 .0) _ (c .before .before .before .before .before .before .before .before .before .read-row .ensures), lent-long _ (c .before .before .before .before .before .before .before .before .before .before .before .before .before .before .before .args .known .now) _ _ _ (c .before .before .before .before .before .before .before .before .before .before .before .before .before .before .before .pre .0 .1) (c .before .before .before .before .before .before .before .before .before .before .before .before .before .before .before .pre .0 .0) _ (c .before .before .before .before .before .before .before .before .before .read-row .ensures) _ _ (c .before .before .before .before .before .before .before .before .offset .ensures) (c .before .before .before .before .before .before .before .size .ensures), c .before .before .before .before .before .before .before .before .before .before .before .before .before .before .before .pre .1 .1)
+put-values-requires c κs = (limits-are _ (c .before .before .before .before .before .before .before .before .before .before .before .before .before .before .args .known .now) _ _ _ (c .before .before .before .before .before .before .before .before .before .before .before .before .before .before .pre .0 .1) (c .before .before .before .before .before .before .before .before .before .before .before .before .before .before .pre .0 .0) _ (c .before .before .before .before .before .before .before .before .read-row .ensures), lent-long _ (c .before .before .before .before .before .before .before .before .before .before .before .before .before .before .args .known .now) _ _ _ (c .before .before .before .before .before .before .before .before .before .before .before .before .before .before .pre .0 .1) (c .before .before .before .before .before .before .before .before .before .before .before .before .before .before .pre .0 .0) _ (c .before .before .before .before .before .before .before .before .read-row .ensures) _ _ (c .before .before .before .before .before .before .before .offset .ensures) (c .before .before .before .before .before .before .size .ensures), c .before .before .before .before .before .before .before .before .before .before .before .before .before .before .pre .1 .1)
 
 returns : tie.Need-returns
-returns c = λ es s h e. loaded _ (c .before .before .before .before .before .before .before .before .before .before .before .before .before .before .before .before .before .before .args .known .now) _ _ _ (c .before .before .before .before .before .before .before .before .before .before .before .before .before .before .before .before .before .before .pre .0 .1) _ (c .before .before .before .before .before .before .before .before .before .before .before .before .read-row .ensures) _ _ (c .before .before .before .before .before .before .before .before .before .before .before .offset .ensures) (c .before .before .before .before .before .before .before .before .before .before .size .ensures) es h s e _ _ _ _ (c .before .before .before .before .before .before .before .before .before .before .before .before .before .before .before .before .before .before .pre .1 .0) (c .before .before .before .before .before .before .before .before .before .before .before .before .before .before .before .before .before .before .pre .1 .1) (c .before .before .before .before .before .before .before .put-keys .ensures) (c .before .before .put-values .ensures)
+returns c = λ es s h e. loaded _ (c .before .before .before .before .before .before .before .before .before .before .before .before .before .before .before .before .before .args .known .now) _ _ _ (c .before .before .before .before .before .before .before .before .before .before .before .before .before .before .before .before .before .pre .0 .1) _ (c .before .before .before .before .before .before .before .before .before .before .before .read-row .ensures) _ _ (c .before .before .before .before .before .before .before .before .before .before .offset .ensures) (c .before .before .before .before .before .before .before .before .before .size .ensures) es h s e _ _ _ _ (c .before .before .before .before .before .before .before .before .before .before .before .before .before .before .before .before .before .pre .1 .0) (c .before .before .before .before .before .before .before .before .before .before .before .before .before .before .before .before .before .pre .1 .1) (c .before .before .before .before .before .before .put-keys .ensures) (c .before .before .put-values .ensures)
 
 pub load-spec : {M : Type 1} → statement M
-load-spec =
-    tie.close
-    (tie.spec
-    (λ c. search needs)
-    (λ c κs. search needs)
-    offset-requires
-    size-requires
-    add-until
-    mul-put-keys
-    (λ c. search needs)
-    (λ c. search needs)
-    part-put-keys-end
-    put-keys-requires
-    mul-put-values
-    (λ c. search needs)
-    (λ c. search needs)
-    part-put-values-end
-    put-values-requires
-    (λ c. search needs)
-    (λ c. search needs)
-    returns)
+load-spec = tie.close (tie.spec (λ c. search needs) (λ c κs. search needs) offset-requires size-requires add-until mul-numbers (λ c. search needs) (λ c. search needs) part-numbers-end put-keys-requires put-values-requires (λ c. search needs) (λ c. search needs) returns)
