@@ -157,9 +157,13 @@ module _ (x : Frame) (r : Reading) (s b o : List ℕ) (ws : r .sections ≤ leng
 -- ---- what the last code word does
 
 module _ (x : Frame) (r : Reading) (o o′ : List ℕ) (t : Bool) where
-  pub told-target : x .kind ≡ 3 → Told (r .outcomes) o o′ t (set-target (x .first) (take (r .outcomes) o)) → ToldPut x r record { ok = t; sections = r .sections; bytes = r .bytes; outcomes = r .outcomes; functions = r .functions; objects = r .objects; skips = r .skips; entry = r .entry } o o′
-  unfolding view told put-line put-frame of-kind if
-  told-target h a =
+  abbrev told-so : Reading
+  told-so = record { ok = t; sections = r .sections; bytes = r .bytes; outcomes = r .outcomes; functions = r .functions; objects = r .objects; skips = r .skips; entry = r .entry }
+
+  -- the outcomes that a frame makes of these
+  told-as : (z : Option (List ℕ)) → ((s b f j k e : List ℕ) → onward (in-outcomes (lists r s b o f j k e)) z ≡ put-line (room s b o f j k e) (frame-of x) (lists r s b o f j k e)) → Told (r .outcomes) o o′ t z → ToldPut x r told-so o o′
+  unfolding view told if
+  told-as z is a =
       record {
         size-o = a .size;
         sections = refl;
@@ -170,40 +174,22 @@ module _ (x : Frame) (r : Reading) (o o′ : List ℕ) (t : Bool) where
         skips = refl;
         entry = refl;
         same =
-            λ s b f j k e. rw h (onward-if (in-outcomes (lists r s b o f j k e)) t (take (r .outcomes) o′) ∙ ap (onward (in-outcomes (lists r s b o f j k e))) (a .same));
+            λ s b f j k e. onward-if (in-outcomes (lists r s b o f j k e)) t (take (r .outcomes) o′)
+            ∙ ap (onward (in-outcomes (lists r s b o f j k e))) (a .same)
+            ∙ is s b f j k e;
       }
 
-  pub told-table : x .kind ≡ 4 → Told (r .outcomes) o o′ t (set-table (x .first) (x .second) (take (r .outcomes) o)) → ToldPut x r record { ok = t; sections = r .sections; bytes = r .bytes; outcomes = r .outcomes; functions = r .functions; objects = r .objects; skips = r .skips; entry = r .entry } o o′
-  unfolding view told put-line put-frame of-kind if
-  told-table h a =
-      record {
-        size-o = a .size;
-        sections = refl;
-        bytes = refl;
-        outcomes = refl;
-        functions = refl;
-        objects = refl;
-        skips = refl;
-        entry = refl;
-        same =
-            λ s b f j k e. rw h (onward-if (in-outcomes (lists r s b o f j k e)) t (take (r .outcomes) o′) ∙ ap (onward (in-outcomes (lists r s b o f j k e))) (a .same));
-      }
+  pub told-target : x .kind ≡ 3 → Told (r .outcomes) o o′ t (set-target (x .first) (take (r .outcomes) o)) → ToldPut x r told-so o o′
+  unfolding put-line put-frame of-kind if
+  told-target h = told-as _ (λ s b f j k e. rw h refl)
 
-  pub told-branch : x .kind ≡ 5 → Told (r .outcomes) o o′ t (add-branch (x .first) (x .second) (x .third) (take (r .outcomes) o)) → ToldPut x r record { ok = t; sections = r .sections; bytes = r .bytes; outcomes = r .outcomes; functions = r .functions; objects = r .objects; skips = r .skips; entry = r .entry } o o′
-  unfolding view told put-line put-frame of-kind if
-  told-branch h a =
-      record {
-        size-o = a .size;
-        sections = refl;
-        bytes = refl;
-        outcomes = refl;
-        functions = refl;
-        objects = refl;
-        skips = refl;
-        entry = refl;
-        same =
-            λ s b f j k e. rw h (onward-if (in-outcomes (lists r s b o f j k e)) t (take (r .outcomes) o′) ∙ ap (onward (in-outcomes (lists r s b o f j k e))) (a .same));
-      }
+  pub told-table : x .kind ≡ 4 → Told (r .outcomes) o o′ t (set-table (x .first) (x .second) (take (r .outcomes) o)) → ToldPut x r told-so o o′
+  unfolding put-line put-frame of-kind if
+  told-table h = told-as _ (λ s b f j k e. rw h refl)
+
+  pub told-branch : x .kind ≡ 5 → Told (r .outcomes) o o′ t (add-branch (x .first) (x .second) (x .third) (take (r .outcomes) o)) → ToldPut x r told-so o o′
+  unfolding put-line put-frame of-kind if
+  told-branch h = told-as _ (λ s b f j k e. rw h refl)
 
 -- ---- all of these
 
