@@ -1,10 +1,11 @@
 -- The part of the room that was read.
+use mathlib.Core.Path.{_≡_}
 use mathlib.Core.List.{List}
 use Prim.Native.Nat.{ℕ, _-_}
-use lib.ListN.{take, drop}
-use Rattle.printing.specs.Told.{Begun}
-use Rattle.mapping.specs.Answers.{fmap-text}
-use Rattle.mapping.proofs.Answers.{first}
+use native.Mathlib.Omega.{arith}
+use lib.ListN.{take}
+use Rattle.fmap.specs.Part.{part}
 
-pub read-mapped : (n : ℕ) (t out out′ : List ℕ) (r : ℕ) → Begun (fmap-text (take (n - 0) (drop 0 t))) out out′ r → Begun (fmap-text (take n t)) out out′ r
-read-mapped n t out out′ r p = rw (first n t) at p
+-- It is the first bytes, as many as were read.
+pub part-first : (n : ℕ) (t : List ℕ) → part 0 n t ≡ take n t
+part-first n t = let z : n - 0 ≡ n = omega arith in rw z

@@ -4,9 +4,10 @@
 // a text that fills it may go on, and is refused by R 01 as one with a line that is no frame is.
 ghost use mathlib.Core.Path.{_≡_};
 ghost use Prim.Native.Nat.{_≤_};
-ghost use lib.ListN.{length, take};
+ghost use lib.ListN.{length};
 ghost use Rattle.printing.specs.Told.{Begun};
 ghost use Rattle.mapping.specs.Answers.{fmap-text};
+ghost use Rattle.fmap.specs.Part.{part};
 
 type Text = [u8; 1048576];
 
@@ -25,7 +26,7 @@ fn read_text(text: &mut Text) -> usize
 fn map_read(text: &Text, count: usize, out: &mut Out) -> usize
     requires read { ⌜ count ≤ length (now text) ⌝ }
     requires room { ⌜ length (now out) ≡ 1489000 ⌝ }
-    ensures { λ r. ⌜ Begun (fmap-text (take count (now (text .entry)))) (now (out .entry)) (now (out .exit)) r ⌝ }
+    ensures { λ r. ⌜ Begun (fmap-text (part 0 count (now (text .entry)))) (now (out .entry)) (now (out .exit)) r ⌝ }
 {
     let all: &[u8] = text;
     mapping::fmap_text(&all[0..count], out)
