@@ -1,16 +1,16 @@
 -- The search for a line `=`.
-use mathlib.Core.Path.{_≡_, refl}
+use mathlib.Core.Path.{_≡_, refl, sym, ap, _∙_}
 use mathlib.Core.Bool.{Bool, true, false}
 use mathlib.Core.List.{List}
 use mathlib.Core.Logic.{_⊎_, inl, inr}
-use Prim.Native.Nat.{ℕ, _+_, _-_, _<_, _≤_}
+use Prim.Native.Nat.{ℕ, zero, suc, _+_, _-_, _<_, _≤_}
 use native.Mathlib.Omega.{arith}
 use lib.Dec.{ltb}
-use lib.ListN.{length, take, drop, length-drop}
-use lib.Seq.{length-take-le, take-all}
+use lib.ListN.{length, take, drop, getD, length-drop}
+use lib.Seq.{take-all, getD-drop}
 use borrow.Author.Tests.{ltb-true, ltb-false}
 use Rattle.replay.specs.Marks.{Mark, IsMark, NextMark}
-use Rattle.replay.specs.Rest.{Rest}
+use Rattle.replay.specs.Rest.{Cut, Rest}
 
 -- it begins no line
 pub inside-a-line : {A B : Type 0} → (A → ⊥) → (B → ⊥) → A ⊎ B → ⊥
@@ -45,26 +45,53 @@ module _ (t : List ℕ) where
             by true q = s .none j (ltb-true j i q) k
             by false q = let z : i ≤ j = ltb-false j i q in let y : j ≡ i = omega arith in m (rw y at k)
 
--- ---- a mark behind a place
+-- ---- a mark behind a place at which the text is cut
 
-module _ (t : List ℕ) (at : ℕ) (h : at ≤ length t) (m : ℕ) (n : NextMark (take (length t - at) (drop at t)) m) where
-  tail-long : length (take (length t - at) (drop at t)) ≡ length t - at
-  tail-long = let e : length (drop at t) ≡ length t - at = length-drop at t in length-take-le (length t - at) (drop at t) (omega arith)
+module _ (t : List ℕ) (at : ℕ) (h : at ≤ length t) (k : Cut t at) where
+  -- the place begins a line
+  at-start : (m : ℕ) → m ≡ 0 → Cut t at → (at + m ≡ 0) ⊎ (getD t (at + m - 1) 0 ≡ 10)
+  at-start m z (inl e) = inl (omega arith)
+  at-start m z (inr p) = let l : 2 ≤ at = p .0 in let e : at - 2 + 1 ≡ at + m - 1 = omega arith in inr (rw e at (p .1 .ends))
 
-  -- its two bytes are within the text
-  pub mark-inside : at + m < length t → at + m + 2 ≤ length t
-  mark-inside k = let e : m < length (take (length t - at) (drop at t)) = omega (arith, tail-long) in omega (arith, n .here e .inside, tail-long)
+  begins-moved : (m : ℕ) → (m ≡ 0) ⊎ (getD (drop at t) (m - 1) 0 ≡ 10) → (at + m ≡ 0) ⊎ (getD t (at + m - 1) 0 ≡ 10)
+  begins-moved zero b = at-start 0 refl k
+  begins-moved (suc m) (inl z) = absurd (omega arith)
+  begins-moved (suc m) (inr g) =
+      let e : at + (suc m - 1) ≡ at + suc m - 1 = omega arith in
+      inr (rw e at (sym (getD-drop at t (suc m - 1) 0) ∙ g))
 
-  -- or there is none
-  pub none-behind : length t ≤ at + m → Rest t at
-  none-behind k = record { within = h; unmarked = by }
-    where
-      by : (i : ℕ) → Mark (drop at t) i → ⊥
-      by i q =
-          let d : length (drop at t) ≡ length t - at = length-drop at t in
-          let e : take (length t - at) (drop at t) ≡ drop at t = take-all (length t - at) (drop at t) (omega arith) in
-          n .first i (omega (arith, q .inside)) (rw e q)
+  -- so a line `=` of what is behind it is one of the text
+  mark-moved : (m : ℕ) → Mark (drop at t) m → Mark t (at + m)
+  mark-moved m q =
+      let e : at + (m + 1) ≡ at + m + 1 = omega arith in
+      record {
+        begins = begins-moved m (q .begins);
+        sign = sym (getD-drop at t m 0) ∙ q .sign;
+        ends = rw e at (sym (getD-drop at t (m + 1) 0) ∙ q .ends);
+        inside = omega (arith, q .inside, length-drop at t);
+      }
 
--- nor behind the end
-pub none-at-end : (t : List ℕ) (at : ℕ) → at ≤ length t → length t ≤ at → Rest t at
-none-at-end t at h k = record { within = h; unmarked = λ i q. absurd (omega (arith, q .inside, length-drop at t)) }
+  module _ (m : ℕ) (n : NextMark (take (length t - at) (drop at t)) m) where
+    whole : take (length t - at) (drop at t) ≡ drop at t
+    whole = take-all (length t - at) (drop at t) (omega (arith, length-drop at t))
+
+    long : length (take (length t - at) (drop at t)) ≡ length t - at
+    long = ap length whole ∙ length-drop at t
+
+    -- the text is cut behind the next one, too
+    pub next-cut : at + m < length t → (at + m + 2 ≤ length t) × Cut t (at + m + 2)
+    next-cut l =
+        let q : Mark t (at + m) = mark-moved m (rw whole at (n .here (omega (arith, long)))) in
+        let e : at + m ≡ at + m + 2 - 2 = omega arith in
+        (omega (arith, q .inside), inr (omega arith, rw e at q))
+
+    -- or there is none
+    pub none-behind : length t ≤ at + m → Rest t at
+    none-behind l = record { within = h; behind = k; unmarked = by }
+      where
+        by : (i : ℕ) → Mark (drop at t) i → ⊥
+        by i q = n .first i (omega (arith, q .inside, length-drop at t)) (rw whole q)
+
+  -- nor behind the end
+  pub none-at-end : length t ≤ at → Rest t at
+  none-at-end l = record { within = h; behind = k; unmarked = λ i q. absurd (omega (arith, q .inside, length-drop at t)) }

@@ -2,6 +2,7 @@
 use mathlib.Core.Path.{_≡_}
 use mathlib.Core.Bool.{Bool, _&&_, not}
 use mathlib.Core.List.{List, [], _∷_}
+use mathlib.Core.Logic.{_⊎_}
 use Prim.Native.Nat.{ℕ, _+_, _-_, _≤_}
 use lib.Dec.{ltb, eqb}
 use lib.ListN.{length, take, drop, getD, set}
@@ -9,9 +10,14 @@ use Rattle.rules.specs.Choice.{if}
 use Rattle.mapping.specs.Answers.{text-room}
 use Rattle.replay.specs.Marks.{Mark}
 
--- no line `=` begins behind a place
+-- a place is a text's begin, or right behind a line `=` of it, which takes two bytes
+abbrev pub Cut : List ℕ → ℕ → Type 0
+Cut t r = (r ≡ 0) ⊎ ((2 ≤ r) × Mark t (r - 2))
+
+-- where the rest of a text begins: at such a place, behind which there is no other line `=`
 pub record Rest (t : List ℕ) (r : ℕ) : Type 0 where
   pub within : r ≤ length t
+  pub behind : Cut t r
   pub unmarked : (i : ℕ) → Mark (drop r t) i → ⊥
 
 -- what is kept of the first n bytes from a place on: all of them; or, where they are too many for an image, a line that is no frame (63 is `?`)
