@@ -3,6 +3,9 @@ ghost use Rattle.obj.specs.Sections.{Few};
 ghost use Rattle.obj.specs.Symbols.{KeysAscend};
 ghost use Rattle.ordered.specs.Part.{Column};
 ghost use Rattle.analysis.specs.Tables.{Passed};
+use lines::Bytes;
+use lines::Numbers;
+use lines::State;
 
 // From where to where a table without a size may lead.
 struct Bounds {
@@ -196,17 +199,18 @@ fn print_image(
     }
 }
 
-// Takes the numbers apart into the lists of an image, of which list i lies from `from[i]` up to `to[i]`.
-pub fn print_parts(numbers: &[u32], bytes: &[u8], count: usize, from: [usize; 9], to: [usize; 9]) {
-    if count <= bytes.len() {
+// The answer of an image that was read.
+pub fn answer(numbers: &Numbers, bytes: &Bytes, image: State) {
+    if lines::is_whole(image) {
         print_image(
-            lines::part(numbers, from[0], to[0]),
-            &bytes[0..count],
-            lines::part(numbers, from[1], to[1]),
-            lines::part(numbers, from[2], to[2]),
-            lines::part(numbers, from[3], to[3]),
-            lines::part(numbers, from[4], to[4]),
-            lines::part(numbers, from[5], to[5]),
+            lines::list(numbers, image, 0),
+            lines::byte_list(bytes, image),
+            lines::list(numbers, image, 1),
+            lines::list(numbers, image, 2),
+            lines::list(numbers, image, 3),
+            lines::list(numbers, image, 4),
+            lines::list(numbers, image, 5),
         );
     }
+    io::write_all(1, b"=\n");
 }

@@ -1,4 +1,4 @@
-// The text in which the test programs read the lists that are lent for an image, a byte at a time.
+// The text in which the test programs read the lists that are lent for an image.
 //
 // An image is lines of text, ended by a line `=`. A line that begins with `#` is a remark. Any other line begins with the letter of a
 // list, and puts numbers at that list's end, so the lists are lent as they stand, rows that are not whole too:
@@ -39,6 +39,9 @@ pub type Numbers = [u32; 400000];
 // Room for a code section of 65,537 words, and for tables.
 pub type Bytes = [u8; 300000];
 
+// Room for what is read of the input at a time.
+pub type Space = [u8; 4096];
+
 // What was read of an image. The lists of numbers lie one after the other in one array: list i from `from[i]` up to `to[i]`.
 pub struct State {
     place: u32,
@@ -50,17 +53,21 @@ pub struct State {
     digits: u32,
     // how many numbers and how many bytes there are
     numbers: usize,
-    pub bytes: usize,
+    bytes: usize,
     // whether anything of the image was read, the line `=` was, a line was not of the format, an array was too short
     open: bool,
     pub ended: bool,
     bad: bool,
     full: bool,
-    pub from: [usize; 9],
-    pub to: [usize; 9],
+    from: [usize; 9],
+    to: [usize; 9],
+    // what was read of the input and is not taken yet stands in the space from here up to there
+    next: usize,
+    end: usize,
 }
 
-pub fn fresh() -> State {
+// Nothing of an image, with so much of the input in the space.
+fn fresh(next: usize, end: usize) -> State {
     State {
         place: START,
         list: 0,
@@ -75,7 +82,14 @@ pub fn fresh() -> State {
         full: false,
         from: [0; 9],
         to: [0; 9],
+        next,
+        end,
     }
+}
+
+// Nothing of the input is read yet.
+pub fn begun() -> State {
+    fresh(0, 0)
 }
 
 fn at(state: State, place: u32) -> State {
@@ -95,11 +109,13 @@ fn wrong(state: State) -> State {
 
 // A digit's value; 16 for what is no digit.
 fn value_of(b: u8) -> u32 {
-    if b >= b'0' && b <= b'9' {
-        return (b - b'0') as u32;
+    let d = std::num::wrapping_sub_u8(b, b'0');
+    if d < 10 {
+        return d as u32;
     }
-    if b >= b'a' && b <= b'f' {
-        return (b - b'a') as u32 + 10;
+    let a = std::num::wrapping_sub_u8(b, b'a');
+    if a < 6 {
+        return a as u32 + 10;
     }
     16
 }
@@ -172,7 +188,7 @@ fn take_digit(bytes: &mut Bytes, state: State, d: u32) -> State {
     let n = state.digits;
     if n < 8 {
         let v = state.value % 0x1000_0000 * 16 + d % 16;
-        if n == 1 && state.list == BYTES && state.place == AMONG {
+        if (n == 1) & (state.list == BYTES) & (state.place == AMONG) {
             return put_byte(bytes, state, v);
         }
         let mut r = state;
@@ -204,13 +220,13 @@ fn put_number(numbers: &mut Numbers, state: State) -> State {
 
 // What stands between the numbers of a line, or before its count.
 fn take_mark(numbers: &mut Numbers, state: State, b: u8) -> State {
-    if state.place == AMONG {
-        if b == b' ' {
-            return put_number(numbers, state);
+    let counted = b == b'*';
+    if (state.place == AMONG) & ((b == b' ') | counted) {
+        let r = put_number(numbers, state);
+        if counted {
+            return at(r, COUNT);
         }
-        if b == b'*' {
-            return at(put_number(numbers, state), COUNT);
-        }
+        return r;
     }
     wrong(state)
 }
@@ -307,18 +323,19 @@ fn end_line(numbers: &mut Numbers, bytes: &mut Bytes, state: State) -> State {
     r
 }
 
-// A byte of the input. After the line `=` the image is ended; the next one begins with `fresh`.
-pub fn take(numbers: &mut Numbers, bytes: &mut Bytes, state: State, b: u8) -> State {
+// A byte of the input. After the line `=` the image is ended.
+fn take(numbers: &mut Numbers, bytes: &mut Bytes, state: State, b: u8) -> State {
     if b == b'\n' {
         return end_line(numbers, bytes, state);
     }
-    if state.place == START {
+    let place = state.place;
+    if place == START {
         return begin_line(state, b);
     }
-    if state.place == REMARK {
+    if place == REMARK {
         return state;
     }
-    if state.place == AMONG || state.place == COUNT {
+    if (place == AMONG) | (place == COUNT) {
         let d = value_of(b);
         if d < 16 {
             return take_digit(bytes, state, d);
@@ -328,32 +345,100 @@ pub fn take(numbers: &mut Numbers, bytes: &mut Bytes, state: State, b: u8) -> St
     wrong(state)
 }
 
-// Whether an ended image is not to be answered, which is told. A line that is not of the format comes before too little room.
-pub fn refused(state: State) -> bool {
+// What stands in the space is taken, up to the image's end.
+fn take_space(numbers: &mut Numbers, bytes: &mut Bytes, space: &Space, state: State) -> State {
+    let mut r = state;
+    let end = state.end;
+    let mut i = state.next;
+    while i < end {
+        if 4096 <= i {
+            return r;
+        }
+        r = take(numbers, bytes, r, space[i]);
+        i += 1;
+        if r.ended {
+            r.next = i;
+            return r;
+        }
+    }
+    r
+}
+
+// More of the input is read into the space; none where there is no more.
+fn read_on(space: &mut Space, state: State) -> State {
+    let mut r = state;
+    r.next = 0;
+    r.end = io::read_full(0, space);
+    r
+}
+
+// The image that comes next in the input: `ended` where there is one. One that is not of the form or too long is told.
+pub fn next_image(
+    numbers: &mut Numbers,
+    bytes: &mut Bytes,
+    space: &mut Space,
+    state: State,
+) -> State {
+    let mut r = fresh(state.next, state.end);
+    // Nothing says that the input ends; a million turns are four gigabytes.
+    let mut turn: usize = 0;
+    while turn < 1000000 {
+        r = take_space(numbers, bytes, space, r);
+        if r.ended {
+            return told(r);
+        }
+        r = read_on(space, r);
+        if r.end == 0 {
+            return told(r);
+        }
+        turn += 1;
+    }
+    r
+}
+
+// An image that is not to be answered is told. A line that is not of the format comes before too little room; where the input ended before
+// the image did, there is no other answer.
+fn told(state: State) -> State {
+    if !state.ended {
+        if state.open {
+            io::write_all(1, b"?\n=\n");
+        }
+        return state;
+    }
     if state.bad {
         io::write_all(1, b"?\n");
-        return true;
+        return state;
     }
     if state.full {
         io::write_all(1, b"!\n");
-        return true;
     }
-    false
+    state
 }
 
-// The input ends. An image that no line `=` ended gets no other answer.
-pub fn end_input(state: State) {
-    if state.open {
-        io::write_all(1, b"?\n=\n");
-    }
+// Whether an ended image is to be answered.
+pub fn is_whole(state: State) -> bool {
+    !(state.bad | state.full)
 }
 
-// The numbers from one index up to another.
-pub fn part(numbers: &[u32], from: usize, to: usize) -> &[u32] {
-    if from <= to {
-        if to <= numbers.len() {
-            return &numbers[from..to];
+// The numbers of a list.
+pub fn list(numbers: &[u32], state: State, i: usize) -> &[u32] {
+    if i < 9 {
+        let from = state.from[i];
+        let to = state.to[i];
+        if from <= to {
+            if to <= numbers.len() {
+                return &numbers[from..to];
+            }
         }
     }
     &numbers[0..0]
+}
+
+// The bytes.
+pub fn byte_list(bytes: &[u8], state: State) -> &[u8] {
+    let count = state.bytes;
+    if count <= bytes.len() {
+        return &bytes[0..count];
+    }
+    &bytes[0..0]
 }

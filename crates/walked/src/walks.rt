@@ -2,6 +2,9 @@
 ghost use mathlib.Core.Path.{_≡_};
 ghost use Prim.Native.Nat.{_≤_};
 ghost use lib.ListN.{length};
+use lines::Bytes;
+use lines::Numbers;
+use lines::State;
 use one_function::Function;
 
 // The longest list that is lent for a result.
@@ -316,19 +319,20 @@ fn make_walks(
     }
 }
 
-// Takes the numbers apart into the lists of an image, of which list i lies from `from[i]` up to `to[i]`.
-pub fn print_parts(numbers: &[u32], bytes: &[u8], count: usize, from: [usize; 9], to: [usize; 9]) {
-    if count <= bytes.len() {
+// The answer of an image that was read.
+pub fn answer(numbers: &Numbers, bytes: &Bytes, image: State) {
+    if lines::is_whole(image) {
         make_walks(
-            lines::part(numbers, from[0], to[0]),
-            &bytes[0..count],
-            lines::part(numbers, from[1], to[1]),
-            lines::part(numbers, from[2], to[2]),
-            lines::part(numbers, from[3], to[3]),
-            lines::part(numbers, from[4], to[4]),
-            lines::part(numbers, from[5], to[5]),
-            lines::part(numbers, from[6], to[6]),
-            lines::part(numbers, from[7], to[7]),
+            lines::list(numbers, image, 0),
+            lines::byte_list(bytes, image),
+            lines::list(numbers, image, 1),
+            lines::list(numbers, image, 2),
+            lines::list(numbers, image, 3),
+            lines::list(numbers, image, 4),
+            lines::list(numbers, image, 5),
+            lines::list(numbers, image, 6),
+            lines::list(numbers, image, 7),
         );
     }
+    io::write_all(1, b"=\n");
 }
