@@ -77,8 +77,8 @@ fn put_registers(o: Out, w: u32) -> Out {
         r = put_register(r, d, first);
         first = false;
     }
-    let zero = c / 4 % 2 == 1 && a == 0;
-    if c / 2 % 4 != 0 && !zero {
+    let zero = (c / 4 % 2 == 1) & (a == 0);
+    if (c / 2 % 4 != 0) & !zero {
         r = put_register(r, a, first);
         first = false;
     }
@@ -92,43 +92,67 @@ fn put_registers(o: Out, w: u32) -> Out {
     r
 }
 
-// A name, where the word is of that kind.
-fn put_kind(o: Out, is: bool, text: &[u8], first: bool) -> Out {
-    if is {
-        return put_name(o, text, first);
+// Whether the word is of a kind, by the kind's number, in the order in which they are told.
+fn is_kind(w: u32, k: usize) -> bool {
+    match k {
+        0 => ppc::words::is_blr(w),
+        1 => ppc::words::is_nop(w),
+        2 => ppc::words::is_rfi(w),
+        3 => ppc::words::is_conditional_blr(w),
+        4 => ppc::words::is_mflr(w),
+        5 => ppc::words::is_mtlr(w),
+        6 => ppc::words::is_stwu(w),
+        7 => ppc::words::is_stw(w),
+        8 => ppc::words::is_addi(w),
+        9 => ppc::words::is_or(w),
+        10 => ppc::words::is_lwz(w),
+        _ => ppc::words::is_function_terminator(w),
     }
-    o
+}
+
+// Where the name of a kind begins in the table: five bytes for each, and the two long ones behind these.
+fn name_at(k: usize) -> usize {
+    match k {
+        3 => 55,
+        11 => 67,
+        _ => k % 11 * 5,
+    }
+}
+
+// The name of a kind, up to a space in the table, after a comma but for the first.
+fn put_kind(o: Out, names: &[u8; 78], k: usize, first: bool) -> Out {
+    let mut r = o;
+    if !first {
+        r = put(r, b',');
+    }
+    let mut i = name_at(k);
+    while i < 78 {
+        if names[i] == b' ' {
+            return r;
+        }
+        r = put(r, names[i]);
+        i += 1;
+    }
+    r
 }
 
 // What the walk takes the word for; '-' for nothing.
 fn put_kinds(o: Out, w: u32) -> Out {
-    let from = o.len;
-    let a = put_kind(o, ppc::words::is_blr(w), b"blr", true);
-    let b = put_kind(a, ppc::words::is_nop(w), b"nop", a.len == from);
-    let c = put_kind(b, ppc::words::is_rfi(w), b"rfi", b.len == from);
-    let d = put_kind(
-        c,
-        ppc::words::is_conditional_blr(w),
-        b"conditional",
-        c.len == from,
-    );
-    let e = put_kind(d, ppc::words::is_mflr(w), b"mflr", d.len == from);
-    let f = put_kind(e, ppc::words::is_mtlr(w), b"mtlr", e.len == from);
-    let g = put_kind(f, ppc::words::is_stwu(w), b"stwu", f.len == from);
-    let h = put_kind(g, ppc::words::is_stw(w), b"stw", g.len == from);
-    let i = put_kind(h, ppc::words::is_addi(w), b"addi", h.len == from);
-    let j = put_kind(i, ppc::words::is_or(w), b"or", i.len == from);
-    let k = put_kind(j, ppc::words::is_lwz(w), b"lwz", j.len == from);
-    let l = put_kind(
-        k,
-        ppc::words::is_function_terminator(w),
-        b"terminator",
-        k.len == from,
-    );
-    if l.len == from {
-        return put(l, b'-');
+    let names = b"blr  nop  rfi       mflr mtlr stwu stw  addi or   lwz  conditional terminator ";
+    let mut r = o;
+    let mut first = true;
+    let mut k: usize = 0;
+    while k < 12 {
+        if is_kind(w, k) {
+            r = put_kind(r, names, k, first);
+            first = false;
+        }
+        k += 1;
     }
-    l
+    if first {
+        return put(r, b'-');
+    }
+    r
 }
 
 fn described(w: u32) -> Out {
@@ -175,14 +199,14 @@ fn fresh() -> Line {
 
 // A digit's value; 16 for what is no digit.
 fn value_of(b: u8) -> u32 {
-    if b >= b'0' && b <= b'9' {
-        return (b - b'0') as u32;
+    let d = std::num::wrapping_sub_u8(b, b'0');
+    if d < 10 {
+        return d as u32;
     }
-    if b >= b'A' && b <= b'F' {
-        return (b - b'A') as u32 + 10;
-    }
-    if b >= b'a' && b <= b'f' {
-        return (b - b'a') as u32 + 10;
+    // a small letter is 32 above the large one
+    let a = std::num::wrapping_sub_u8(b | 32, b'a');
+    if a < 6 {
+        return a as u32 + 10;
     }
     16
 }
@@ -232,15 +256,14 @@ fn main() {
     let mut turn: usize = 0;
     while turn < 1000000 {
         let mut space = io::buffer();
-        let got = libc::read(0, &mut space);
-        if got <= 0 {
+        let n = io::read_full(0, &mut space);
+        if n == 0 {
             break;
         }
-        let n = io::count(got, &space);
         l = take_all(l, &space[..n]);
         turn += 1;
     }
-    if l.digits > 0 || l.bad {
+    if (l.digits > 0) | l.bad {
         print_line(l);
     }
 }

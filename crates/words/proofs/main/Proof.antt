@@ -1,13 +1,8 @@
+-- `words::main` is safe and ends: each turn counts up to a million. Assumes nothing but what `read` and `write` are said to do.
 use Prim.Native.Nat.{_≤_, _-_}
 use borrow.Author.Needs.{needs}
 use Rattle.words.proofs.main.Statement.{statement}
 use Rattle.words.proofs.main.Tie as tie
-use Rattle.io.proofs.buffer.Reads as buffer-reads
-use Rattle.io.proofs.count.Reads as count-reads
-use Rattle.libc.proofs.read.Reads as read-reads
-use Rattle.words.proofs.fresh.Reads as fresh-reads
-use Rattle.words.proofs.print_line.Reads as print-line-reads
-use Rattle.words.proofs.take_all.Reads as take-all-reads
 
 abbrev Inv-loop : tie.InvT-loop
 Inv-loop l₀ turn₀ l turn = turn ≤ 1000000
@@ -38,8 +33,6 @@ main-spec =
     μ-loop
     (λ c κs. search needs)
     loop-holds
-    (λ c κs. search needs)
-    (λ c. search needs)
     (λ c κs. search needs)
     (λ c. search needs)
     (λ c κs. search needs)
