@@ -240,7 +240,7 @@ fn told_table(table: Tables, d: Done, m: Marking) -> Tables {
     io::write_all(1, b" | ");
     print_answer(wide(m.number), m.new, m.count, sum_of_columns(starts, ends));
     io::write_all(1, b"\n");
-    let same = d.number == m.number && d.count == m.count && d.yes == m.new;
+    let same = (d.number == m.number) & (d.count == m.count) & (d.yes == m.new);
     let rows = is_same_table(records, starts, ends);
     Tables {
         records,
@@ -248,7 +248,7 @@ fn told_table(table: Tables, d: Done, m: Marking) -> Tables {
         starts,
         ends,
         blocks: m.count,
-        apart: counted(table.apart, same && rows),
+        apart: counted(table.apart, same & rows),
     }
 }
 
@@ -295,7 +295,7 @@ fn core_cut(table: Tables, records: [Block; 260], d: Done, addr: u64) -> Tables 
     let made = Marking {
         number: done.number,
         count: done.count,
-        new: done.number == 0 && !done.new,
+        new: (done.number == 0) & !done.new,
     };
     let after = Tables {
         records,
@@ -313,7 +313,7 @@ fn cut_both(table: Tables, addr: u64) -> Tables {
     let d = cut_done(before, table.count, addr);
     let records = cut_table(before, table.count, addr);
     io::write_all(1, b"c ");
-    if d.yes || d.number != 0 {
+    if d.yes | (d.number != 0) {
         return core_cut(table, records, d, addr);
     }
     let starts = table.starts;
@@ -370,14 +370,14 @@ fn told_list(lists: Lists, r: Told, c: Told) -> Lists {
     io::write_all(1, b" | ");
     print_answer(c.addr, c.yes, lists.pending, sum_of_keys(keys));
     io::write_all(1, b"\n");
-    let same = r.yes == c.yes && r.addr == c.addr && lists.count == lists.pending;
+    let same = (r.yes == c.yes) & (r.addr == c.addr) & (lists.count == lists.pending);
     let all = is_same_list(addresses, keys);
     Lists {
         addresses,
         count: lists.count,
         keys,
         pending: lists.pending,
-        apart: counted(lists.apart, same && all),
+        apart: counted(lists.apart, same & all),
     }
 }
 
@@ -543,11 +543,13 @@ fn list_line(lists: Lists, l: Line) -> Lists {
 
 // A digit's value; 16 for what is no digit.
 fn value_of(b: u8) -> u64 {
-    if b >= b'0' && b <= b'9' {
-        return (b - b'0') as u64;
+    let d = std::num::wrapping_sub_u8(b, b'0');
+    if d < 10 {
+        return d as u64;
     }
-    if b >= b'a' && b <= b'f' {
-        return (b - b'a') as u64 + 10;
+    let a = std::num::wrapping_sub_u8(b, b'a');
+    if a < 6 {
+        return a as u64 + 10;
     }
     16
 }
@@ -643,11 +645,10 @@ fn main() {
     let mut turn: usize = 0;
     while turn < 1000000 {
         let mut space = io::buffer();
-        let got = libc::read(0, &mut space);
-        if got <= 0 {
+        let n = io::read_full(0, &mut space);
+        if n == 0 {
             break;
         }
-        let n = io::count(got, &space);
         r = take_all(r, &space[..n]);
         turn += 1;
     }

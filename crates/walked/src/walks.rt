@@ -75,54 +75,47 @@ fn element(list: &[u64], i: usize) -> u64 {
     0
 }
 
-// A column of `count` elements that begins at an index; the place past it.
-fn print_column(name: &[u8], list: &[u64], at: usize, count: usize) -> usize {
-    let mut i: usize = 0;
-    while i < count {
-        io::write_all(1, name);
-        print_key(element(list, std::num::wrapping_add_usize(at, i)));
-        io::write_all(1, b"\n");
-        i += 1;
-    }
-    std::num::wrapping_add_usize(at, count)
-}
+// What stands in the second column: nothing, keys, or sizes, which have eight digits.
+const NOTHING: u32 = 0;
 
-// Two such columns, one behind the other; the place past them.
-fn print_columns(name: &[u8], list: &[u64], at: usize, count: usize) -> usize {
-    let second = std::num::wrapping_add_usize(at, count);
-    let mut i: usize = 0;
-    while i < count {
-        io::write_all(1, name);
-        print_key(element(list, std::num::wrapping_add_usize(at, i)));
-        print_key(element(list, std::num::wrapping_add_usize(second, i)));
-        io::write_all(1, b"\n");
-        i += 1;
-    }
-    std::num::wrapping_add_usize(second, count)
-}
+const KEYS: u32 = 1;
 
-// The same for jump tables, whose sizes have eight digits.
-fn print_tables(list: &[u64], at: usize, count: usize) -> usize {
-    let second = std::num::wrapping_add_usize(at, count);
-    let mut i: usize = 0;
-    while i < count {
-        io::write_all(1, b"J");
-        print_key(element(list, std::num::wrapping_add_usize(at, i)));
+const SIZES: u32 = 2;
+
+fn print_second(kind: u32, value: u64) {
+    if kind == KEYS {
+        print_key(value);
+    }
+    if kind == SIZES {
         io::write_all(1, b" ");
-        io::print_hex(1, element(list, std::num::wrapping_add_usize(second, i)), 8);
+        io::print_hex(1, value, 8);
+    }
+}
+
+// A column of `count` elements that begins at an index, and a second one behind it where there is one, row by row; the place past them.
+fn print_columns(name: &[u8], kind: u32, list: &[u64], at: usize, count: usize) -> usize {
+    let second = std::num::wrapping_add_usize(at, count);
+    let mut i: usize = 0;
+    while i < count {
+        io::write_all(1, name);
+        print_key(element(list, std::num::wrapping_add_usize(at, i)));
+        print_second(kind, element(list, std::num::wrapping_add_usize(second, i)));
         io::write_all(1, b"\n");
         i += 1;
+    }
+    if kind == NOTHING {
+        return second;
     }
     std::num::wrapping_add_usize(second, count)
 }
 
 // All lists; the place past them.
 fn print_lists(list: &[u64], r: Function) -> usize {
-    let branches = print_columns(b"B", list, 0, r.blocks);
-    let references = print_columns(b"C", list, branches, r.branches);
-    let tables = print_column(b"X", list, references, r.function_references);
-    let possible = print_tables(list, tables, r.jump_table_references);
-    print_column(b"P", list, possible, r.possible_blocks)
+    let branches = print_columns(b"B", KEYS, list, 0, r.blocks);
+    let references = print_columns(b"C", KEYS, list, branches, r.branches);
+    let tables = print_columns(b"X", NOTHING, list, references, r.function_references);
+    let possible = print_columns(b"J", SIZES, list, tables, r.jump_table_references);
+    print_columns(b"P", NOTHING, list, possible, r.possible_blocks)
 }
 
 // ---- the lent list
@@ -150,7 +143,7 @@ fn is_untouched(list: &[u64]) -> bool {
 }
 
 fn print_rest(number: u32, list: &[u64], past: usize) {
-    if number == 1 || number == 2 || number == 3 {
+    if (1 <= number) & (number <= 3) {
         if is_untouched(list) {
             io::write_all(1, b"L untouched\n");
             return;
@@ -175,13 +168,13 @@ fn is_bare(r: Function) -> bool {
         | r.possible_blocks;
     let places = r.prologue | r.epilogue;
     let flags = r.found | r.conditional | r.rfi | r.load;
-    counts == 0 && places == 0 && !flags
+    (counts == 0) & (places == 0) & !flags
 }
 
 fn print_walk(r: Function, list: &[u64]) {
     print_number(r.number);
     let mut past: usize = 0;
-    if r.number == 0 || !is_bare(r) {
+    if (r.number == 0) | !is_bare(r) {
         print_function(r);
         past = print_lists(list, r);
     }

@@ -1,3 +1,4 @@
+-- `records::main` is safe and ends: each turn counts up to a million. Assumes nothing but what `read` and `write` are said to do.
 use Prim.Native.Nat.{_≤_, _-_}
 use borrow.Author.Needs.{needs}
 use Rattle.records.proofs.main.Statement.{statement}
@@ -29,8 +30,6 @@ main-spec =
     μ-loop
     (λ c κs. search needs)
     loop-holds
-    (λ c κs. search needs)
-    (λ c. search needs)
     (λ c κs. search needs)
     (λ c. search needs)
     (λ c κs. search needs)
