@@ -8,7 +8,7 @@ ghost use Rattle.rules.specs.Known.{Entry};
 ghost use Rattle.rules.specs.Run.{run};
 ghost use Rattle.rules.specs.Lines as rules;
 ghost use Rattle.obj_image.specs.Lent.{lent, given};
-ghost use Rattle.reading.specs.View.{view, room, Fit};
+ghost use Rattle.reading.specs.View.{view, Fit};
 ghost use Rattle.printing.specs.Told.{Begun};
 ghost use Rattle.cfa.specs.Maps.{room-of};
 ghost use Rattle.mapping.specs.Answers.{answer, map-text, image-room, map-room, fmap-text, Shows, Showing, Sized};
@@ -118,58 +118,10 @@ fn map_read(
     printing::put_refusal(1, out)
 }
 
-// A text of frames to the text of its map, which `out` then begins with; the answer is how long it is. The other slices are room to work
+// A text of frames to the text of its map, which `out` then begins with; the answer is how long it is. The other arrays are room to work
 // in, and what they hold before is of no account: rows and lists bound how large a map may be (4 where it passes them), the seven before
 // them how long a list of the image.
 fn map_text(
-    text: &[u8],
-    sections: &mut [u32; 36],
-    bytes: &mut [u8; 393216],
-    outcomes: &mut [u32; 6144],
-    functions: &mut [u32; 3075],
-    objects: &mut [u32; 3075],
-    skips: &mut [u32; 130],
-    entry: &mut [u32; 2],
-    rows: &mut [u64; 10240],
-    lists: &mut [u64; 131072],
-    out: &mut [u8; 1489000],
-) -> usize
-    requires room { ⌜ 6 + 46 * (length (now rows) / 10) + 11 * length (now lists) ≤ length (now out) ⌝ }
-    ensures { λ r.
-        ⌜ Begun
-        (map-text
-        (room (now (sections .entry)) (now (bytes .entry)) (now (outcomes .entry)) (now (functions .entry))
-        (now (objects .entry)) (now (skips .entry)) (now (entry .entry)))
-        (room-of (now (rows .entry)) (now (lists .entry))) (now (text .entry)))
-        (now (out .entry)) (now (out .exit)) r ⌝ }
-{
-    let q = texts::read_image(
-        text,
-        sections,
-        bytes,
-        outcomes,
-        functions,
-        objects,
-        skips,
-        entry,
-    );
-    map_read(
-        q,
-        sections,
-        bytes,
-        outcomes,
-        functions,
-        objects,
-        skips,
-        entry,
-        rows,
-        lists,
-        out,
-    )
-}
-
-// The same, of how long the arrays are.
-fn map_in_arrays(
     text: &[u8],
     sections: &mut [u32; 36],
     bytes: &mut [u8; 393216],
@@ -186,8 +138,18 @@ fn map_in_arrays(
         (now rows) (now lists) (now out) ⌝ }
     ensures { λ r. ⌜ Begun (map-text image-room map-room (now (text .entry))) (now (out .entry)) (now (out .exit)) r ⌝ }
 {
-    map_text(
+    let q = texts::read_image(
         text,
+        sections,
+        bytes,
+        outcomes,
+        functions,
+        objects,
+        skips,
+        entry,
+    );
+    map_read(
+        q,
         sections,
         bytes,
         outcomes,
@@ -215,7 +177,7 @@ fn map_image(text: &[u8], out: &mut [u8; 1489000]) -> usize
     let mut entry: [u32; 2] = [0; 2];
     let mut rows: [u64; 10240] = [0; 10240];
     let mut lists: [u64; 131072] = [0; 131072];
-    map_in_arrays(
+    map_text(
         text,
         &mut sections,
         &mut bytes,
