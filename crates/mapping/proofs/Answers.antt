@@ -22,7 +22,7 @@ use Rattle.entries.proofs.Rows.{row-long}
 use Rattle.results.specs.Rows.{result-row}
 use Rattle.reading.specs.View.{view, room}
 use Rattle.reading.specs.declared.state.Reading.{Reading}
-use Rattle.texts.specs.Texts.{TextRead}
+use Rattle.reading.specs.Texts.{TextRead}
 use Rattle.printing.specs.Rows.{Tells, Telling}
 use Rattle.printing.specs.Told.{Begun}
 use Rattle.printing.proofs.Maps.{results-tell}

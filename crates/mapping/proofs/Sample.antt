@@ -7,11 +7,11 @@ use Rattle.rules.specs.Text.{bytes}
 use Rattle.rules.specs.Lines.{text}
 use Rattle.rules.proofs.Whole.{whole}
 use Rattle.obj_image.specs.Lent.{rows, given}
-use Rattle.frames.specs.Frames.{digit-value, number, tagged, read-frame}
-use Rattle.frames.specs.LastRows.{back, set-back, last-kind, add-word, last-is}
-use Rattle.frames.specs.Rows.{add-row}
+use Rattle.reading.specs.Frames.{digit-value, number, tagged, read-frame}
+use Rattle.reading.specs.LastRows.{back, set-back, last-kind, add-word, last-is}
+use Rattle.reading.specs.Rows.{add-row}
 use Rattle.reading.specs.PutFrame.{onward, put-frame, put-line}
-use Rattle.texts.specs.Texts.{read-text}
+use Rattle.reading.specs.Texts.{read-text}
 use Rattle.mapping.specs.Answers.{map-text, image-room, map-room, fmap-text}
 
 abbrev three : List ℕ

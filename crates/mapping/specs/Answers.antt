@@ -12,7 +12,7 @@ use Rattle.rules.specs.Run.{run}
 use Rattle.rules.specs.Lines.{text, lines}
 use Rattle.obj_image.specs.Lent.{Lent, given}
 use Rattle.reading.specs.PutFrame.{Room}
-use Rattle.texts.specs.Texts.{read-text}
+use Rattle.reading.specs.Texts.{read-text}
 use Rattle.printing.specs.Rows.{Tells}
 
 -- the run of the lists that a text came to; "a line that is no frame, prints R 01 alone"

@@ -138,7 +138,7 @@ fn map_text(
         (now rows) (now lists) (now out) ⌝ }
     ensures { λ r. ⌜ Begun (map-text image-room map-room (now (text .entry))) (now (out .entry)) (now (out .exit)) r ⌝ }
 {
-    let q = texts::read_image(
+    let q = reading::texts::read_image(
         text,
         sections,
         bytes,

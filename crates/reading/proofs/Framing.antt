@@ -10,8 +10,8 @@ use lib.Dec.{eqb}
 use lib.ListN.{length}
 use borrow.Author.Tests.{ne-eqb}
 use Rattle.rules.specs.Choice.{if}
-use Rattle.frames.specs.declared.line.Frame.{Frame}
-use Rattle.frames.specs.Struct.{of-kind, frame-of}
+use Rattle.reading.specs.declared.line.Frame.{Frame}
+use Rattle.reading.specs.Struct.{of-kind, frame-of}
 use Rattle.reading.specs.PutFrame.{put-line}
 use Rattle.reading.specs.View.{lists, view, room, Fit, Parted, refused, FramePut, GivenPut, ImagePut}
 use Rattle.reading.specs.declared.state.Reading.{Reading}

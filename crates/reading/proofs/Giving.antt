@@ -8,10 +8,10 @@ use native.Mathlib.Omega.{arith}
 use lib.ListN.{length, take}
 use Rattle.rules.specs.Choice.{if}
 use Rattle.obj_image.specs.Lent.{Lent, lent}
-use Rattle.frames.specs.declared.line.Frame.{Frame}
-use Rattle.frames.specs.declared.rows.Count.{Count}
-use Rattle.frames.specs.Rows.{counted, Added}
-use Rattle.frames.specs.Struct.{of-kind, frame-of}
+use Rattle.reading.specs.declared.line.Frame.{Frame}
+use Rattle.reading.specs.declared.rows.Count.{Count}
+use Rattle.reading.specs.Rows.{counted, Added}
+use Rattle.reading.specs.Struct.{of-kind, frame-of}
 use Rattle.reading.specs.PutFrame.{onward, put-frame, put-line, in-functions, in-objects, in-skips, in-entry}
 use Rattle.reading.specs.View.{lists, view, room, GivenPut}
 use Rattle.reading.specs.declared.state.Reading.{Reading}

@@ -12,12 +12,12 @@ use lib.Seq.{length-take-le}
 use borrow.Author.Tests.{le-leb, lt-leb, eq-eqb, ne-eqb}
 use Rattle.rules.specs.Choice.{if}
 use Rattle.obj_image.specs.Lent.{Lent, lent}
-use Rattle.frames.specs.declared.line.Frame.{Frame}
-use Rattle.frames.specs.declared.rows.Count.{Count}
-use Rattle.frames.specs.Rows.{add-row, counted, Added}
-use Rattle.frames.specs.Struct.{of-kind, frame-of}
-use Rattle.frames.specs.LastRows.{last-kind, add-word, both, WordAdded, set-target, set-table, add-branch, told, Told}
-use Rattle.frames.proofs.Ending.{no-section}
+use Rattle.reading.specs.declared.line.Frame.{Frame}
+use Rattle.reading.specs.declared.rows.Count.{Count}
+use Rattle.reading.specs.Rows.{add-row, counted, Added}
+use Rattle.reading.specs.Struct.{of-kind, frame-of}
+use Rattle.reading.specs.LastRows.{last-kind, add-word, both, WordAdded, set-target, set-table, add-branch, told, Told}
+use Rattle.reading.proofs.Ending.{no-section}
 use Rattle.reading.specs.PutFrame.{onward, put-word, put-outcome, put-frame, put-line, in-both, in-outcomes, in-sections}
 use Rattle.reading.specs.View.{lists, view, room, WordPut, ImagePut, ToldPut}
 use Rattle.reading.specs.declared.state.Reading.{Reading}

@@ -2,3 +2,12 @@ pub mod Giving
 pub mod Imaging
 pub mod Framing
 pub mod Samples
+pub mod Digits
+pub mod Cases
+pub mod Putting
+pub mod Ending
+pub mod Ranges
+pub mod LineSamples
+pub mod Cutting
+pub mod TextReading
+pub mod TextSamples

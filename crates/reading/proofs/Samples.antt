@@ -6,9 +6,9 @@ use Prim.Native.Nat.{ℕ}
 use Rattle.rules.specs.Choice.{if}
 use Rattle.rules.specs.Text.{bytes}
 use Rattle.obj_image.specs.Lent.{Lent, lent}
-use Rattle.frames.specs.Frames.{digit-value, number, tagged, read-frame}
-use Rattle.frames.specs.Rows.{add-row}
-use Rattle.frames.specs.LastRows.{back, set-back, last-kind, add-word, last-is}
+use Rattle.reading.specs.Frames.{digit-value, number, tagged, read-frame}
+use Rattle.reading.specs.Rows.{add-row}
+use Rattle.reading.specs.LastRows.{back, set-back, last-kind, add-word, last-is}
 use Rattle.reading.specs.PutFrame.{onward, put-frame, put-line}
 
 -- one line more, if all before were frames

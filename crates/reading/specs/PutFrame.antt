@@ -12,9 +12,9 @@ use lib.Dec.{leb, eqb}
 use lib.ListN.{length}
 use Rattle.rules.specs.Choice.{if}
 use Rattle.obj_image.specs.Lent.{Lent, lent}
-use Rattle.frames.specs.Frames.{Frame, section, word, code-word, target, table, branch, function, object, skip, entry}
-use Rattle.frames.specs.Rows.{add-row}
-use Rattle.frames.specs.LastRows.{last-kind, add-word, set-target, set-table, add-branch}
+use Rattle.reading.specs.Frames.{Frame, section, word, code-word, target, table, branch, function, object, skip, entry}
+use Rattle.reading.specs.Rows.{add-row}
+use Rattle.reading.specs.LastRows.{last-kind, add-word, set-target, set-table, add-branch}
 
 -- how long each lent list is
 pub record Room : Type 0 where

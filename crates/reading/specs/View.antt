@@ -7,8 +7,8 @@ use Prim.Native.Nat.{ℕ, _<_, _≤_}
 use lib.ListN.{length, take}
 use Rattle.rules.specs.Choice.{if}
 use Rattle.obj_image.specs.Lent.{Lent, lent}
-use Rattle.frames.specs.declared.line.Frame.{Frame}
-use Rattle.frames.specs.Struct.{frame-of}
+use Rattle.reading.specs.declared.line.Frame.{Frame}
+use Rattle.reading.specs.Struct.{frame-of}
 use Rattle.reading.specs.PutFrame.{Room, put-word, put-line}
 use Rattle.reading.specs.declared.state.Reading.{Reading}
 

@@ -5,7 +5,7 @@ ghost use Prim.Native.Nat.{_≤_};
 ghost use lib.ListN.{length};
 ghost use Rattle.reading.specs.View.{GivenPut};
 use crate::state::Reading;
-use frames::line::Frame;
+use crate::line::Frame;
 
 // A function symbol, an object symbol, a skip range or the entry point. A list that already breaks its rule stays as it is: it has
 // more than 1,024 symbols, 64 skip ranges or one entry point.
@@ -31,25 +31,25 @@ pub fn put_given(
     let kind = f.kind;
     match kind {
         6 => {
-            let c = frames::rows::add_row(functions, r.functions, 3072, &row, 3);
+            let c = crate::rows::add_row(functions, r.functions, 3072, &row, 3);
             q.ok = c.ok;
             q.functions = c.count;
             q
         }
         7 => {
-            let c = frames::rows::add_row(objects, r.objects, 3072, &row, 3);
+            let c = crate::rows::add_row(objects, r.objects, 3072, &row, 3);
             q.ok = c.ok;
             q.objects = c.count;
             q
         }
         8 => {
-            let c = frames::rows::add_row(skips, r.skips, 128, &row, 2);
+            let c = crate::rows::add_row(skips, r.skips, 128, &row, 2);
             q.ok = c.ok;
             q.skips = c.count;
             q
         }
         _ => {
-            let c = frames::rows::add_row(entry, r.entry, 1, &row, 1);
+            let c = crate::rows::add_row(entry, r.entry, 1, &row, 1);
             q.ok = c.ok;
             q.entry = c.count;
             q

@@ -5,7 +5,7 @@ ghost use Prim.Native.Nat.{_≤_};
 ghost use lib.ListN.{length};
 ghost use Rattle.reading.specs.View.{WordPut, ImagePut, ToldPut};
 use crate::state::Reading;
-use frames::line::Frame;
+use crate::line::Frame;
 
 // A word of the last section, if this is code (1) or another (2), as is asked for.
 fn put_word(
@@ -21,8 +21,8 @@ fn put_word(
         ⌜ WordPut kind w r q (now (sections .entry)) (now (sections .exit)) (now (bytes .entry)) (now (bytes .exit)) ⌝ }
 {
     let mut q = r;
-    if frames::words::last_kind(sections, r.sections) == kind {
-        let c = frames::words::add_word(sections, r.sections, bytes, r.bytes, w);
+    if crate::words::last_kind(sections, r.sections) == kind {
+        let c = crate::words::add_word(sections, r.sections, bytes, r.bytes, w);
         q.ok = c.ok;
         q.bytes = c.count;
         return q;
@@ -51,7 +51,7 @@ pub fn put_code_word(
     if q.ok {
         if r.outcomes <= 6138 {
             let row: [u32; 6] = [f.second, f.third, 0, 0, 0, 0];
-            let c = frames::rows::add_row(outcomes, r.outcomes, 6138, &row, 6);
+            let c = crate::rows::add_row(outcomes, r.outcomes, 6138, &row, 6);
             q.ok = c.ok;
             q.outcomes = c.count;
             return q;
@@ -72,15 +72,15 @@ fn put_told(r: Reading, outcomes: &mut [u32; 6144], f: Frame) -> Reading
     let kind = f.kind;
     match kind {
         3 => {
-            q.ok = frames::outcomes::set_target(outcomes, r.outcomes, f.first);
+            q.ok = crate::outcomes::set_target(outcomes, r.outcomes, f.first);
             q
         }
         4 => {
-            q.ok = frames::outcomes::set_table(outcomes, r.outcomes, f.first, f.second);
+            q.ok = crate::outcomes::set_table(outcomes, r.outcomes, f.first, f.second);
             q
         }
         _ => {
-            q.ok = frames::outcomes::add_branch(outcomes, r.outcomes, f.first, f.second, f.third);
+            q.ok = crate::outcomes::add_branch(outcomes, r.outcomes, f.first, f.second, f.third);
             q
         }
     }
@@ -107,7 +107,7 @@ pub fn put_image(
     match kind {
         1 => {
             let row: [u32; 4] = [f.first, f.second, f.third, 0];
-            let c = frames::rows::add_row(sections, r.sections, 32, &row, 4);
+            let c = crate::rows::add_row(sections, r.sections, 32, &row, 4);
             let mut q = r;
             q.ok = c.ok;
             q.sections = c.count;

@@ -1,9 +1,0 @@
-use Rattle.frames.proofs.Cases.{no-kind}
-use Rattle.frames.proofs.line.no_frame.Statement.{statement}
-use Rattle.frames.proofs.line.no_frame.Tie as tie
-
-returns : tie.Need-returns
-returns c = no-kind
-
-pub no-frame-spec : {M : Type 1} → statement M
-no-frame-spec = tie.close (tie.spec returns)

@@ -1,4 +1,0 @@
-pub mod Frames
-pub mod Struct
-pub mod Rows
-pub mod LastRows
