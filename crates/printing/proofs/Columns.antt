@@ -17,7 +17,7 @@ use Rattle.function_slices.specs.Groups.{Pair, pair, add-way, grouped}
 use Rattle.function_slices.specs.View.{part, table}
 use Rattle.function_slices.specs.declared.Small.{Small}
 use Rattle.entries.specs.Columns.{at-froms, at-tos, at-references, at-addresses, at-sizes, slices-from}
-use Rattle.printing_lines.specs.Columns.{second, line, lines}
+use Rattle.printing.specs.Columns.{second, line, lines}
 use Rattle.printing.specs.Told.{flow, others}
 
 pub text-append : (ls ms : List Line) → text (ls ++ ms) ≡ text ls ++ text ms

@@ -17,7 +17,7 @@ use Rattle.rules.proofs.Tests.{and-right}
 use Rattle.function_slices.specs.declared.Small.{Small}
 use Rattle.entries.specs.Columns.{slices-from}
 use Rattle.entries.specs.Table.{odd, small-from}
-use Rattle.printing_lines.specs.Columns.{second, tagged, line, function-line}
+use Rattle.printing.specs.Columns.{second, tagged, line, function-line}
 use Rattle.printing.specs.Rows.{first-entry}
 use Rattle.printing.specs.Told.{of-function, flow, others}
 use Rattle.printing.proofs.Columns.{text-append, flow-is, others-is}

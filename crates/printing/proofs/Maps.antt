@@ -12,8 +12,8 @@ use Rattle.entries.specs.Table.{info-row, entry-numbers, flat, row-size, AllRig
 use Rattle.entries.proofs.Rows.{row-long, row-behind, row-numbers, begins-form, begins-of, begins-le}
 use Rattle.results.specs.Rows.{result-row, map-of, Results}
 use Rattle.results.proofs.Reading.{map-read}
-use Rattle.printing_lines.specs.Printed.{Room, Printed}
-use Rattle.printing_lines.proofs.Printing.{printed-then, Going, going-first, going-on, going-ends}
+use Rattle.printing.specs.Printed.{Room, Printed}
+use Rattle.printing.proofs.Printing.{printed-then, Going, going-first, going-on, going-ends}
 use Rattle.printing.specs.Rows.{first-entry, There, Tells, Telling}
 use Rattle.printing.specs.Told.{Begun}
 use Rattle.printing.proofs.Columns.{text-append}

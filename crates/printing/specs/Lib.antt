@@ -1,2 +1,4 @@
 pub mod Rows
 pub mod Told
+pub mod Printed
+pub mod Columns

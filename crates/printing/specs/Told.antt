@@ -8,7 +8,7 @@ use lib.ListN.{length, take, drop}
 use Rattle.function_slices.specs.declared.Small.{Small}
 use Rattle.entries.specs.Columns.{at-froms, at-tos, at-references, at-addresses, at-sizes}
 use Rattle.entries.specs.Table.{odd}
-use Rattle.printing_lines.specs.Columns as columns
+use Rattle.printing.specs.Columns as columns
 
 -- a slice begins with a text, of which the length is answered; behind it, it is as it was before
 pub record Begun (l before after : List ℕ) (r : ℕ) : Type 0 where

@@ -1,4 +1,6 @@
 // A map in the lent result lists, printed as its lines; a refusal's line.
+mod line;
+
 ghost use mathlib.Core.Path.{_≡_};
 ghost use mathlib.Core.List.{List};
 ghost use Prim.Native.Nat.{_+_, _*_, _<_, _≤_};
@@ -8,7 +10,7 @@ ghost use Rattle.rules.specs.Known.{Entry};
 ghost use Rattle.rules.specs.Lines as rules;
 ghost use Rattle.entries.specs.Columns.{numbers-long};
 ghost use Rattle.entries.specs.Table.{row-size};
-ghost use Rattle.printing_lines.specs.Printed.{Room, Printed};
+ghost use Rattle.printing.specs.Printed.{Room, Printed};
 ghost use Rattle.results.specs.Rows.{map-of};
 ghost use Rattle.printing.specs.Rows.{first-entry, There, Tells, Telling};
 ghost use Rattle.printing.specs.Told.{Begun, of-function, flow, others};
@@ -22,8 +24,8 @@ fn put_flow(out: &mut [u8], at: usize, l: &[u64], slices: function_slices::Small
     let b = slices.blocks;
     let c = b + b;
     let d = c + slices.branches;
-    let p = printing_lines::put_lines(out, at, 66, l, 0, b, b);
-    printing_lines::put_lines(out, p, 67, l, c, d, slices.branches)
+    let p = crate::line::put_lines(out, at, 66, l, 0, b, b);
+    crate::line::put_lines(out, p, 67, l, c, d, slices.branches)
 }
 
 // References and jump tables.
@@ -35,8 +37,8 @@ fn put_others(out: &mut [u8], at: usize, l: &[u64], slices: function_slices::Sma
     let a = slices.blocks + slices.blocks + slices.branches + slices.branches;
     let b = a + slices.function_references;
     let c = b + slices.jump_table_references;
-    let p = printing_lines::put_lines(out, at, 88, l, a, a, slices.function_references);
-    printing_lines::put_lines(out, p, 74, l, b, c, slices.jump_table_references)
+    let p = crate::line::put_lines(out, at, 88, l, a, a, slices.function_references);
+    crate::line::put_lines(out, p, 74, l, b, c, slices.jump_table_references)
 }
 
 // Whether flags and an end are those of a function.
@@ -62,11 +64,11 @@ fn put_entry(out: &mut [u8], at: usize, rows: &[u64], lists: &[u64]) -> usize
 {
     if is_function(rows[2], rows[1]) {
         let s = entries::read_row(rows, 2);
-        let p = printing_lines::put_function_line(out, at, rows[0], rows[1], s);
+        let p = crate::line::put_function_line(out, at, rows[0], rows[1], s);
         let q = put_flow(out, p, lists, s);
         return put_others(out, q, lists, s);
     }
-    printing_lines::put_line(out, at, 78, rows[0], 0)
+    crate::line::put_line(out, at, 78, rows[0], 0)
 }
 
 // How many numbers the first entry's lists take.
@@ -108,7 +110,7 @@ pub fn put_map(rows: &[u64], lists: &[u64], count: usize, out: &mut [u8]) -> usi
         Tells count (now (rows .entry)) (now (lists .entry)) es →
         Begun (rules.text (rules.lines (ok es))) (now (out .entry)) (now (out .exit)) r) ⌝ }
 {
-    let p = printing_lines::put_answer(out, 0, 0);
+    let p = crate::line::put_answer(out, 0, 0);
     put_entries(out, p, rows, lists, count)
 }
 
@@ -117,5 +119,5 @@ pub fn put_refusal(number: u32, out: &mut [u8]) -> usize
     requires { ⌜ (number < 100) × (5 ≤ length (now out)) ⌝ }
     ensures { λ r. ⌜ Begun (rules.text (rules.lines (fault number))) (now (out .entry)) (now (out .exit)) r ⌝ }
 {
-    printing_lines::put_answer(out, 0, number)
+    crate::line::put_answer(out, 0, number)
 }

@@ -4,8 +4,8 @@ ghost use mathlib.Core.Bool.{true};
 ghost use Prim.Native.Nat.{_≤_};
 ghost use lib.ListN.{length};
 ghost use Rattle.reading.specs.View.{GivenPut};
-use crate::state::Reading;
 use crate::line::Frame;
+use crate::state::Reading;
 
 // A function symbol, an object symbol, a skip range or the entry point. A list that already breaks its rule stays as it is: it has
 // more than 1,024 symbols, 64 skip ranges or one entry point.

@@ -4,8 +4,8 @@ ghost use mathlib.Core.Bool.{true};
 ghost use Prim.Native.Nat.{_≤_};
 ghost use lib.ListN.{length};
 ghost use Rattle.reading.specs.View.{WordPut, ImagePut, ToldPut};
-use crate::state::Reading;
 use crate::line::Frame;
+use crate::state::Reading;
 
 // A word of the last section, if this is code (1) or another (2), as is asked for.
 fn put_word(

@@ -5,8 +5,8 @@ ghost use Rattle.reading.specs.View.{Fit, FramePut, Parted, refused};
 use crate::given::put_given;
 use crate::image::put_code_word;
 use crate::image::put_image;
-use crate::state::Reading;
 use crate::line::Frame;
+use crate::state::Reading;
 
 // Where a frame of this kind belongs while all is well: 1 the image, 2 what is given beside it, 3 a code word; 0 nowhere.
 fn part(ok: bool, kind: u32) -> u32

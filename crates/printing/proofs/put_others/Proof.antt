@@ -1,4 +1,4 @@
-use Rattle.printing_lines.proofs.Printing.{printed-then, room-first, room-next}
+use Rattle.printing.proofs.Printing.{printed-then, room-first, room-next}
 use native.Mathlib.Omega.{arith}
 use borrow.Author.Needs.{needs}
 use Rattle.printing.proofs.put_others.Statement.{statement}
