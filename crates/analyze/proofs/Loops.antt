@@ -18,7 +18,7 @@ use Rattle.rules.proofs.PassesEnd.{connect-again, connect-falls}
 use Rattle.rules.proofs.Passes.{checked-of}
 use Rattle.obj.specs.Lent as lents
 use Rattle.obj.specs.declared.sections.Code.{Code}
-use Rattle.executor.specs.Bits.{bit}
+use Rattle.executor.specs.Bits.{bit, VISITED}
 use Rattle.executor.proofs.Pending.{pending-same}
 use Rattle.function_slices.specs.View as lists
 use Rattle.function_slices.specs.View.{view, Fit}
@@ -58,11 +58,11 @@ module _ (s b p f x n : List ℕ) (a : Around) where
 
   module _ (whole step : steps.Around → steps.Walk → Answer steps.Walk) where
     pub record Passing (bits₀ k₀ v₀ : List ℕ) (w₀ : Walk) (bits k v : List ℕ) (w : Walk) : Type 0 where
-      pub bits-long : length bits ≡ 2048
+      pub bits-long : length bits ≡ VISITED
       pub going : Going k v w
       pub same : (e : steps.Around) (o : Of s b f x n a e) → o .lent .outcomes ≡ p → whole e (walk-of (bit bits) k v w) ≡ whole e (walk-of (bit bits₀) k₀ v₀ w₀)
 
-    pub passing-first : (bits k v : List ℕ) (w : Walk) → length bits ≡ 2048 → Going k v w → Passing bits k v w bits k v w
+    pub passing-first : (bits k v : List ℕ) (w : Walk) → length bits ≡ VISITED → Going k v w → Passing bits k v w bits k v w
     passing-first bits k v w h g = record { bits-long = h; going = g; same = λ e o q. refl }
 
     module _ (bits₀ k₀ v₀ : List ℕ) (w₀ : Walk) (bits k v : List ℕ) (w : Walk) (r : Passing bits₀ k₀ v₀ w₀ bits k v w) where
@@ -73,7 +73,7 @@ module _ (s b p f x n : List ℕ) (a : Around) where
             let i : Is (step e (walk-of (bit bits) k v w) >>= whole e) (bit bits′) k′ v′ w′ = stopped (bit bits′) k′ v′ w′ (whole e) (made e o q) m in
             record { is = sym (r .same e o q) ∙ again e o ∙ i .is; fits = i .fits }
 
-        pub passing-on : LendsAll s b p f x n a → w′ .small .fault ≡ 0 → length bits′ ≡ 2048 → Passing bits₀ k₀ v₀ w₀ bits′ k′ v′ w′
+        pub passing-on : LendsAll s b p f x n a → w′ .small .fault ≡ 0 → length bits′ ≡ VISITED → Passing bits₀ k₀ v₀ w₀ bits′ k′ v′ w′
         passing-on l z h =
             record {
               bits-long = h;

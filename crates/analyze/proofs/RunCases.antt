@@ -18,7 +18,7 @@ use Rattle.rules.proofs.Tests.{and-left, and-right}
 use Rattle.rules.proofs.WalkEnds.{Sound, run-walk-step, run-walk-stop, walk-falls}
 use Rattle.obj.specs.declared.sections.Code.{Code}
 use Rattle.obj.specs.Lent.{image}
-use Rattle.executor.specs.Bits.{bit}
+use Rattle.executor.specs.Bits.{bit, VISITED}
 use Rattle.executor.specs.Pending.{pending, stack}
 use Rattle.walk.specs.State.{walk-of, place-of, Fits, Going, Is, answer}
 use Rattle.walk.specs.declared.Walk.{Walk}
@@ -97,12 +97,12 @@ left-any c vis k v r = refl
 -- ---- the loop
 
 pub record Running (s b p f x n : List ℕ) (a : Around) (bits₀ k₀ v₀ : List ℕ) (w₀ : Walk) (bits k v : List ℕ) (w : Walk) : Type 0 where
-  pub bits-long : length bits ≡ 2048
+  pub bits-long : length bits ≡ VISITED
   pub safe : Safe k v w
   pub same : (e : steps.Around) (o : Of s b f x n a e) → o .lent .outcomes ≡ p → (answer (bit bits) k v w >>= rules.run-walk e) ≡ rules.run-walk e (walk-of (bit bits₀) k₀ v₀ w₀)
 
 module _ (s b p f x n : List ℕ) (a : Around) (bits₀ k₀ v₀ : List ℕ) (w₀ : Walk) where
-  pub running-first : length bits₀ ≡ 2048 → Going k₀ v₀ w₀ → Running s b p f x n a bits₀ k₀ v₀ w₀ bits₀ k₀ v₀ w₀
+  pub running-first : length bits₀ ≡ VISITED → Going k₀ v₀ w₀ → Running s b p f x n a bits₀ k₀ v₀ w₀ bits₀ k₀ v₀ w₀
   unfolding _>>=_
   running-first h g =
       record { bits-long = h; safe = λ _. g .fits; same = λ e o q. ap (λ y. y >>= rules.run-walk e) (answer-ok (bit bits₀) k₀ v₀ w₀ (g .fine)) }
@@ -119,7 +119,7 @@ module _ (s b p f x n : List ℕ) (a : Around) (bits₀ k₀ v₀ : List ℕ) (w
       sound-of : (e : steps.Around) → Of s b f x n a e → Sound (e .image)
       sound-of e o = rw (o .is-image) (sound (o .lent) (o .checked))
 
-      pub running-on : LendsAll s b p f x n a → length bits′ ≡ 2048 → Running s b p f x n a bits₀ k₀ v₀ w₀ bits′ k′ v′ w′
+      pub running-on : LendsAll s b p f x n a → length bits′ ≡ VISITED → Running s b p f x n a bits₀ k₀ v₀ w₀ bits′ k′ v′ w′
       unfolding _>>=_
       running-on l h =
           record {

@@ -20,7 +20,7 @@ use Rattle.obj.specs.Lent as lents
 use Rattle.obj.specs.Lent.{Lent, image, rows, symbol-row}
 use Rattle.obj.specs.Sections.{IsCode}
 use Rattle.obj.specs.declared.sections.Code.{Code}
-use Rattle.entries.specs.Table.{Holds, Good, Told, capacity}
+use Rattle.entries.specs.Table.{Holds, Good, Told, capacity, INFOS}
 use Rattle.entries.proofs.Reading.{none-held}
 use Rattle.entry_changes.specs.Changed.{IsAdded, end-set}
 use Rattle.entry_changes.specs.declared.Added.{Added}
@@ -28,6 +28,7 @@ use Rattle.entry_changes.proofs.Symbols.{symbol-is}
 use Rattle.cfa_rounds.specs.Adding.{Entered}
 use Rattle.cfa_rounds.proofs.Each.{Gone, gone, lost}
 use Rattle.cfa_rounds.specs.Listed.{Lists, Listed}
+use Rattle.known.specs.Table.{KNOWN}
 
 -- ---- one symbol
 
@@ -77,7 +78,7 @@ module _ (f : List ℕ) (c : Code) (room : ℕ) (lists : List ℕ) where
     pub good : Good n known infos lists
     pub now : (l : Lent) → Lists l f c → Now l at n known infos
 
-  pub adding-first : (known infos : List ℕ) → length known ≡ 2048 → length infos ≡ 8192 → Adding 0 0 known infos 0
+  pub adding-first : (known infos : List ℕ) → length known ≡ KNOWN → length infos ≡ INFOS → Adding 0 0 known infos 0
   adding-first known infos lk li =
       let h : Holds 0 known infos lists [] = none-held known infos lists lk li in
       record {

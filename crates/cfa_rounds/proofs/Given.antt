@@ -20,8 +20,8 @@ use Rattle.obj.specs.Lent.{Lent, image}
 use Rattle.obj.specs.declared.sections.Code.{Code}
 use Rattle.obj.proofs.Ready.{whole-functions}
 use Rattle.analyze.proofs.Ready.{code-in}
-use Rattle.known.specs.Table.{Kept, Knows}
-use Rattle.entries.specs.Table.{Holds, Good}
+use Rattle.known.specs.Table.{Kept, Knows, KNOWN}
+use Rattle.entries.specs.Table.{Holds, Good, INFOS}
 use Rattle.entries.proofs.Rows.{count-is}
 use Rattle.entries.proofs.Reading.{none-held}
 use Rattle.entries.proofs.Lookups.{entry-at}
@@ -148,8 +148,8 @@ no-point c (a ∷ e) keys n z = absurd (omega (arith, z))
 
 pub listed : (s b o f x sk : List ℕ) (c : Code) → Displayed s b o f x sk c → Listed f c
 listed s b o f x sk c d =
-    let h : Holds 0 (replicate 2048 0) (replicate 8192 0) [] [] = none-held (replicate 2048 0) (replicate 8192 0) [] (length-replicate {A = ℕ} 2048 0) (length-replicate {A = ℕ} 8192 0) in
-    record { lent = d .lent; lists = lists-of (d .lent) s b o f x sk c (d .displays); whole = whole (d .lent) s b o f x sk c (d .displays); low = few-sections (d .lent) s b o f x sk c (d .displays) 0 (replicate 2048 0) [] (h .kept) (h .knows) }
+    let h : Holds 0 (replicate KNOWN 0) (replicate INFOS 0) [] [] = none-held (replicate KNOWN 0) (replicate INFOS 0) [] (length-replicate {A = ℕ} 2048 0) (length-replicate {A = ℕ} 8192 0) in
+    record { lent = d .lent; lists = lists-of (d .lent) s b o f x sk c (d .displays); whole = whole (d .lent) s b o f x sk c (d .displays); low = few-sections (d .lent) s b o f x sk c (d .displays) 0 (replicate KNOWN 0) [] (h .kept) (h .knows) }
 
 pub low : (s b o f x sk : List ℕ) (c : Code) → Displayed s b o f x sk c → (n : ℕ) (known infos lists : List ℕ) → Good n known infos lists → c .number < 16
 low s b o f x sk c d n known infos lists g = few-sections (d .lent) s b o f x sk c (d .displays) n known (g .entries) (g .holds .kept) (g .holds .knows)

@@ -20,6 +20,7 @@ use Rattle.entries.proofs.Rows.{count-is}
 use Rattle.entries.proofs.Lookups.{place-is}
 use Rattle.entries.proofs.Reading.{entries-rise}
 use Rattle.cfa_rounds.specs.Finalized.{In, Owns, Ready}
+use Rattle.known.specs.Table.{ENTRIES}
 
 in-among : (x : Entry) (es : List Entry) → In x es → Among entryOf (x .entry) es
 in-among x [] h = absurd h
@@ -41,7 +42,7 @@ placed x (y ∷ es) r (inr h) =
     let p : Placed x es = placed x es (r .1) h in
     record { below = rw (if-true (lt-ltb (y .entry) (x .entry) q) (suc (rank entryOf (x .entry) es)) 0) (omega (arith, p .below)); same = rw (if-true (lt-ltb (y .entry) (x .entry) q) (suc (rank entryOf (x .entry) es)) 0) (p .same) }
 
-module _ (n : ℕ) (known infos lists : List ℕ) (k : ℕ) (f : Found) (is : IsFound (take n (part 0 1024 known)) k f) where
+module _ (n : ℕ) (known infos lists : List ℕ) (k : ℕ) (f : Found) (is : IsFound (take n (part 0 ENTRIES known)) k f) where
   module _ (es : List Entry) (h : Holds n known infos lists es) (s : Slices) (o : Owns es k s) where
     there : Placed (o .row) es
     there = placed (o .row) es (entries-rise n known infos lists es h) (o .within)

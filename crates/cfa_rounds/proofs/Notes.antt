@@ -12,6 +12,7 @@ use Rattle.rules.specs.Known.{Entry, entryOf, new-entry, is-unfinalized}
 use Rattle.entries.specs.Table.{Holds}
 use Rattle.entries.proofs.Lookups.{entry-at, one-more, none-left}
 use Rattle.cfa_rounds.specs.Near.{Noted, AreNoted}
+use Rattle.known.specs.Table.{ENTRIES}
 
 abbrev keys-in : List Entry → List ℕ
 keys-in es = map entryOf (filter is-unfinalized es)
@@ -54,10 +55,10 @@ module _ (n : ℕ) (known infos lists : List ℕ) where
   pub record Noting (keys : List ℕ) (m i : ℕ) : Type 0 where
     pub some : i ≤ n
     pub few : m ≤ i
-    pub room : length keys ≡ 1024
+    pub room : length keys ≡ ENTRIES
     pub same : (es : List Entry) → Holds n known infos lists es → take m keys ++ keys-in (drop i es) ≡ keys-in es
 
-  pub noting-first : (keys : List ℕ) → length keys ≡ 1024 → Noting keys 0 0
+  pub noting-first : (keys : List ℕ) → length keys ≡ ENTRIES → Noting keys 0 0
   noting-first keys e = record { some = omega arith; few = omega arith; room = e; same = λ es h. refl }
 
   module _ (keys : List ℕ) (m i : ℕ) (a : Noting keys m i) where

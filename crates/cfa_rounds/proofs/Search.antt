@@ -14,7 +14,7 @@ use Rattle.rules.specs.Map as rules
 use Rattle.blocks.proofs.Rows.{length-rows}
 use Rattle.obj.specs.Lent.{Lent, image}
 use Rattle.obj.specs.declared.sections.Code.{Code}
-use Rattle.known.specs.Table.{as-block, Kept, Knows}
+use Rattle.known.specs.Table.{as-block, Kept, Knows, ENTRIES, AT-ENDS}
 use Rattle.known.proofs.Entries.{table}
 use Rattle.entries.proofs.Lookups.{entry-at, end-at}
 use Rattle.cfa_rounds.specs.Looks.{Looks, some-key, found-of}
@@ -73,10 +73,10 @@ module _ (bs sk : List ℕ) (c : Code) (n : ℕ) (known : List ℕ) where
   pub record Seeking (keys : List ℕ) (m i : ℕ) : Type 0 where
     pub some : i ≤ n
     pub few : m ≤ i
-    pub room : length keys ≡ 1024
+    pub room : length keys ≡ ENTRIES
     pub same : (l : Lent) (cap : rules.Capacity) (es : List Entry) → Looks bs sk c l → Knows n known es → rules.new-functions (image l) cap es ≡ (rules.new-functions (image l) cap (drop i es) >>= λ ks. ok (take m keys ++ ks))
 
-  pub seek-first : (keys : List ℕ) → length keys ≡ 1024 → Seeking keys 0 0
+  pub seek-first : (keys : List ℕ) → length keys ≡ ENTRIES → Seeking keys 0 0
   seek-first keys e = record { some = omega arith; few = omega arith; room = e; same = λ l cap es q h. sym (bind-nil (rules.new-functions (image l) cap es)) }
 
   module _ (kept : Kept n known) (keys : List ℕ) (m i : ℕ) (s : Seeking keys m i) where
@@ -91,7 +91,7 @@ module _ (bs sk : List ℕ) (c : Code) (n : ℕ) (known : List ℕ) where
 
     module _ (lt : i < n) (after : ℕ) (f : Found)
         (is-after : (l : Lent) (cap : rules.Capacity) (b k : List ℕ) (es : List Entry) → Looks b k c l → Knows n known es → after ≡ first (new-entry (rules.section-end (image l) cap)) (drop (i + 1) es) .entry)
-        (is-f : (l : Lent) (cap : rules.Capacity) → Looks bs sk c l → (x : Entry) → x .end ≡ getD known (1024 + i) 0 → rules.found-behind (image l) cap x after ≡ found-of f) where
+        (is-f : (l : Lent) (cap : rules.Capacity) → Looks bs sk c l → (x : Entry) → x .end ≡ getD known (AT-ENDS + i) 0 → rules.found-behind (image l) cap x after ≡ found-of f) where
       -- the search goes on behind this entry
       step : (l : Lent) (cap : rules.Capacity) (es : List Entry) → Looks bs sk c l → Knows n known es → rules.new-functions (image l) cap es ≡ (found-of f >>= (λ q. rules.new-functions (image l) cap (drop (i + 1) es) >>= λ ks. ok (q ++ ks)) >>= λ ks. ok (take m keys ++ ks))
       step l cap es q h =

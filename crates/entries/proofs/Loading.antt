@@ -14,7 +14,7 @@ use Rattle.function_slices.specs.declared.Small.{Small}
 use Rattle.stored.proofs.Numbers.{froms-count, tos-count}
 use Rattle.entries.specs.Columns.{small-of, columns-of, Right, numbers-long, cut, Limits, Keys, Values}
 use Rattle.entries.proofs.Places.{long-is, cut-is}
-use Rattle.function_slices.specs.Places.{AT-REFERENCES, AT-TABLES, AT-POSSIBLE, KEYS, VALUES}
+use Rattle.function_slices.specs.Places.{BRANCHES, AT-BRANCHES, AT-REFERENCES, AT-TABLES, AT-POSSIBLE, KEYS, VALUES}
 
 -- ---- the numbers of a function's lists
 
@@ -83,8 +83,8 @@ module _ (s : Slices) (right : Right s) (k k′ v v′ : List ℕ) (lk : length 
       record {
         starts = fewer 0 _ 256 k′ (map startOf (s .blocks)) (right .held .blocks-fit) (length-map (s .blocks) startOf) (ks .starts ∙ ap (λ (p : Parts). p .starts) c);
         ends = fewer 0 _ 256 v′ (map endOf (s .blocks)) (right .held .blocks-fit) (length-map (s .blocks) endOf) (vs .ends ∙ ap (λ (p : Parts). p .ends) c);
-        froms = fewer 256 _ 1024 k′ (way-froms (s .branches)) (right .held .branches-fit) (froms-count (s .branches)) (ks .froms ∙ ap (λ (p : Parts). p .froms) c);
-        tos = fewer 256 _ 1024 v′ (way-tos (s .branches)) (right .held .branches-fit) (tos-count (s .branches)) (vs .tos ∙ ap (λ (p : Parts). p .tos) c);
+        froms = fewer AT-BRANCHES _ BRANCHES k′ (way-froms (s .branches)) (right .held .branches-fit) (froms-count (s .branches)) (ks .froms ∙ ap (λ (p : Parts). p .froms) c);
+        tos = fewer AT-BRANCHES _ BRANCHES v′ (way-tos (s .branches)) (right .held .branches-fit) (tos-count (s .branches)) (vs .tos ∙ ap (λ (p : Parts). p .tos) c);
         references = fewer AT-REFERENCES _ 256 k′ (s .function-references) (right .held .references-fit) refl (ks .references ∙ ap (λ (p : Parts). p .references) c);
         addresses = fewer AT-TABLES _ 256 k′ (map addressOf (s .jump-table-references)) (right .held .tables-fit) (length-map (s .jump-table-references) addressOf) (ks .addresses ∙ ap (λ (p : Parts). p .addresses) c);
         sizes = fewer AT-REFERENCES _ 256 v′ (map sizeOf (s .jump-table-references)) (right .held .tables-fit) (length-map (s .jump-table-references) sizeOf) (vs .sizes ∙ ap (λ (p : Parts). p .sizes) c);

@@ -23,7 +23,7 @@ use Rattle.ordered.specs.declared.Found.{Found}
 use Rattle.blocks.specs.Table.{rows}
 use Rattle.blocks.proofs.Rows as blocks
 use Rattle.function_slices.specs.View.{part}
-use Rattle.known.specs.Table.{known-rows, as-block, Kept, Knows}
+use Rattle.known.specs.Table.{known-rows, as-block, Kept, Knows, ENTRIES, AT-ENDS}
 use Rattle.known.proofs.Entries.{table, has-entry}
 use Rattle.entries.specs.Columns.{small-of}
 use Rattle.entries.specs.Table.{flag, flags, row-of, info-row, odd, Holds, Good}
@@ -56,16 +56,16 @@ module _ (f e : ℕ) where
 -- ---- the columns of known
 
 module _ (n : ℕ) (known : List ℕ) (kept : Kept n known) (es : List Entry) (knows : Knows n known es) (i : ℕ) (lt : i < n) where
-  block-at : block (getD (take 1024 (drop 0 known)) i 0) (getD (take 1024 (drop 1024 known)) i 0) ≡ as-block (getD es i (new-entry 0))
+  block-at : block (getD (take ENTRIES (drop 0 known)) i 0) (getD (take ENTRIES (drop AT-ENDS known)) i 0) ≡ as-block (getD es i (new-entry 0))
   block-at =
-      sym (blocks.row-at n (take 1024 (drop 0 known)) (take 1024 (drop 1024 known)) (table n known kept .starts) (table n known kept .ends) i lt)
+      sym (blocks.row-at n (take ENTRIES (drop 0 known)) (take ENTRIES (drop AT-ENDS known)) (table n known kept .starts) (table n known kept .ends) i lt)
       ∙ ap (λ (l : List Block). getD l i (block 0 0)) (knows .rows) ∙ List·getD-map as-block es i (new-entry 0)
 
   pub entry-at : getD known i 0 ≡ getD es i (new-entry 0) .entry
-  entry-at = sym (getD-take 1024 known i 0 (omega (arith, kept .few))) ∙ ap (λ (b : Block). b .start) block-at
+  entry-at = sym (getD-take ENTRIES known i 0 (omega (arith, kept .few))) ∙ ap (λ (b : Block). b .start) block-at
 
-  pub end-at : getD known (1024 + i) 0 ≡ getD es i (new-entry 0) .end
-  end-at = sym (getD-take 1024 (drop 1024 known) i 0 (omega (arith, kept .few)) ∙ getD-drop 1024 known i 0) ∙ ap (λ (b : Block). b .end) block-at
+  pub end-at : getD known (AT-ENDS + i) 0 ≡ getD es i (new-entry 0) .end
+  end-at = sym (getD-take ENTRIES (drop AT-ENDS known) i 0 (omega (arith, kept .few)) ∙ getD-drop AT-ENDS known i 0) ∙ ap (λ (b : Block). b .end) block-at
 
 -- ---- an entry
 
@@ -82,10 +82,10 @@ module _ (n : ℕ) (known infos lists : List ℕ) (es : List Entry) (h : Holds n
     listed-at : odd (getD infos (i * 8) 0 / 2) ≡ is-some (getD es i (new-entry 0) .slices)
     listed-at = ap (λ (f : ℕ). odd (f / 2)) here ∙ half-row (getD es i (new-entry 0) .analyzed) (getD es i (new-entry 0) .slices) (behind n known infos lists es h i lt)
 
-    pub unfinalized-at : (r : Bool) → r ≡ (odd (getD infos (i * 8) 0) && eqb (getD known (1024 + i) 0) 0 && odd (getD infos (i * 8) 0 / 2)) → r ≡ is-unfinalized (getD es i (new-entry 0))
+    pub unfinalized-at : (r : Bool) → r ≡ (odd (getD infos (i * 8) 0) && eqb (getD known (AT-ENDS + i) 0) 0 && odd (getD infos (i * 8) 0 / 2)) → r ≡ is-unfinalized (getD es i (new-entry 0))
     unfinalized-at r e =
         e
-        ∙ ap₂ (λ (a b : Bool). a && eqb (getD known (1024 + i) 0) 0 && b) analyzed-at listed-at
+        ∙ ap₂ (λ (a b : Bool). a && eqb (getD known (AT-ENDS + i) 0) 0 && b) analyzed-at listed-at
         ∙ ap (λ (j : ℕ). getD es i (new-entry 0) .analyzed && eqb j 0 && is-some (getD es i (new-entry 0) .slices)) (end-at n known (h .kept) es (h .knows) i lt)
 
     pub one-more : drop i es ≡ getD es i (new-entry 0) ∷ drop (i + 1) es
@@ -145,11 +145,11 @@ upper-there k d e (x ∷ es) t = by (ltb (x .entry) k) t (upper-there k d e es)
     by false t f = refl
 
 module _ (n : ℕ) (known : List ℕ) (kept : Kept n known) where
-  pub find-fits : (n ≤ length (part 0 1024 known)) × Rising self (take n (part 0 1024 known))
+  pub find-fits : (n ≤ length (part 0 ENTRIES known)) × Rising self (take n (part 0 ENTRIES known))
   unfolding part
   find-fits = (table n known kept .starts, blocks.starts-rise n _ _ (table n known kept))
 
-  module _ (k : ℕ) (f : Found) (is : IsFound (take n (part 0 1024 known)) k f) where
+  module _ (k : ℕ) (f : Found) (is : IsFound (take n (part 0 ENTRIES known)) k f) where
     module _ (es : List Entry) (knows : Knows n known es) where
       pub place-is : f .at ≡ rank entryOf k es
       unfolding part
@@ -168,7 +168,7 @@ module _ (n : ℕ) (known : List ℕ) (kept : Kept n known) where
     found-in e = blocks.found-lt n k _ _ (table n known kept) f is e
 
     module _ (es : List Entry) (knows : Knows n known es) where
-      pub end-there : f .hit ≡ true → getD known (1024 + f .at) 0 ≡ end-of-entry k es
+      pub end-there : f .hit ≡ true → getD known (AT-ENDS + f .at) 0 ≡ end-of-entry k es
       unfolding end-of-entry
       end-there e =
           let t : has entryOf k es ≡ true = sym (hit-is es knows) ∙ e in

@@ -9,6 +9,7 @@ use Rattle.function_slices.specs.View.{part, Parts, parts-of}
 use Rattle.function_slices.specs.declared.Small.{Small}
 use Rattle.function_slices.proofs.Parts.{Lent, over, lent, part-length, parts-are}
 use Rattle.entries.specs.Columns.{at-froms, at-tos, at-references, at-addresses, at-sizes, at-possible, numbers-long, cut, Limits, Keys, Values}
+use Rattle.function_slices.specs.Places.{AT-REFERENCES, AT-TABLES, AT-POSSIBLE, AT-PENDING, AT-SIZES, KEYS, VALUES, BRANCHES}
 
 -- a copy as a part that was lent
 pub pasted : (xs : List ℕ) (a n : ℕ) (ys xs′ : List ℕ) → a + n ≤ length xs → length ys ≡ n → xs′ ≡ paste xs a ys n → Lent a n xs ys xs′
@@ -23,20 +24,20 @@ unfolding part
 copied xs a l at n xs′ room long e = pasted xs a n (take n (drop at l)) xs′ room (part-length at n l long) e
 
 module _ (s : Small) (l : List ℕ) (lim : Limits s) (long : length l ≡ numbers-long s) where
-  module _ (k : List ℕ) (lk : length k ≡ 2176) (k1 k2 k3 k4 k5 : List ℕ) where
+  module _ (k : List ℕ) (lk : length k ≡ KEYS) (k1 k2 k3 k4 k5 : List ℕ) where
     pub keys-done : k1 ≡ paste k 0 (take (s .blocks) (drop 0 l)) (s .blocks)
         → k2 ≡ paste k1 256 (take (s .branches) (drop (at-froms s) l)) (s .branches)
-        → k3 ≡ paste k2 1280 (take (s .«function_references») (drop (at-references s) l)) (s .«function_references»)
-        → k4 ≡ paste k3 1536 (take (s .«jump_table_references») (drop (at-addresses s) l)) (s .«jump_table_references»)
-        → k5 ≡ paste k4 1792 (take (s .«possible_blocks») (drop (at-possible s) l)) (s .«possible_blocks») → Keys s l k k5
+        → k3 ≡ paste k2 AT-REFERENCES (take (s .«function_references») (drop (at-references s) l)) (s .«function_references»)
+        → k4 ≡ paste k3 AT-TABLES (take (s .«jump_table_references») (drop (at-addresses s) l)) (s .«jump_table_references»)
+        → k5 ≡ paste k4 AT-POSSIBLE (take (s .«possible_blocks») (drop (at-possible s) l)) (s .«possible_blocks») → Keys s l k k5
     keys-done e1 e2 e3 e4 e5 =
         let l1 : Lent 0 (s .blocks) k (part 0 (s .blocks) l) k1 = copied k 0 l 0 (s .blocks) k1 (omega (arith, lim .blocks-fit)) (omega arith) e1 in
         let l2 : Lent 256 (s .branches) k1 (part (at-froms s) (s .branches) l) k2 = copied k1 256 l (at-froms s) (s .branches) k2 (omega (arith, lim .branches-fit, l1 .size)) (omega arith) e2 in
-        let l3 : Lent 1280 (s .«function_references») k2 (part (at-references s) (s .«function_references») l) k3 = copied k2 1280 l (at-references s) (s .«function_references») k3 (omega (arith, lim .references-fit, l1 .size, l2 .size)) (omega arith) e3 in
-        let l4 : Lent 1536 (s .«jump_table_references») k3 (part (at-addresses s) (s .«jump_table_references») l) k4 = copied k3 1536 l (at-addresses s) (s .«jump_table_references») k4 (omega (arith, lim .tables-fit, l1 .size, l2 .size, l3 .size)) (omega arith) e4 in
-        let l5 : Lent 1792 (s .«possible_blocks») k4 (part (at-possible s) (s .«possible_blocks») l) k5 = copied k4 1792 l (at-possible s) (s .«possible_blocks») k5 (omega (arith, lim .possible-fit, l1 .size, l2 .size, l3 .size, l4 .size)) (omega arith) e5 in
+        let l3 : Lent AT-REFERENCES (s .«function_references») k2 (part (at-references s) (s .«function_references») l) k3 = copied k2 AT-REFERENCES l (at-references s) (s .«function_references») k3 (omega (arith, lim .references-fit, l1 .size, l2 .size)) (omega arith) e3 in
+        let l4 : Lent AT-TABLES (s .«jump_table_references») k3 (part (at-addresses s) (s .«jump_table_references») l) k4 = copied k3 AT-TABLES l (at-addresses s) (s .«jump_table_references») k4 (omega (arith, lim .tables-fit, l1 .size, l2 .size, l3 .size)) (omega arith) e4 in
+        let l5 : Lent AT-POSSIBLE (s .«possible_blocks») k4 (part (at-possible s) (s .«possible_blocks») l) k5 = copied k4 AT-POSSIBLE l (at-possible s) (s .«possible_blocks») k5 (omega (arith, lim .possible-fit, l1 .size, l2 .size, l3 .size, l4 .size)) (omega arith) e5 in
         let f1 : s .blocks ≤ 256 = lim .blocks-fit in
-        let f2 : s .branches ≤ 1024 = lim .branches-fit in
+        let f2 : s .branches ≤ BRANCHES = lim .branches-fit in
         let f3 : s .«function_references» ≤ 256 = lim .references-fit in
         let f4 : s .«jump_table_references» ≤ 256 = lim .tables-fit in
         let f5 : s .«possible_blocks» ≤ 128 = lim .possible-fit in
@@ -44,22 +45,22 @@ module _ (s : Small) (l : List ℕ) (lim : Limits s) (long : length l ≡ number
           size = l5 .size ∙ l4 .size ∙ l3 .size ∙ l2 .size ∙ l1 .size;
           starts = l5 .below 0 (s .blocks) (omega arith) ∙ l4 .below 0 (s .blocks) (omega arith) ∙ l3 .below 0 (s .blocks) (omega arith) ∙ l2 .below 0 (s .blocks) (omega arith) ∙ l1 .here;
           froms = l5 .below 256 (s .branches) (omega arith) ∙ l4 .below 256 (s .branches) (omega arith) ∙ l3 .below 256 (s .branches) (omega arith) ∙ l2 .here;
-          references = l5 .below 1280 (s .«function_references») (omega arith) ∙ l4 .below 1280 (s .«function_references») (omega arith) ∙ l3 .here;
-          addresses = l5 .below 1536 (s .«jump_table_references») (omega arith) ∙ l4 .here;
+          references = l5 .below AT-REFERENCES (s .«function_references») (omega arith) ∙ l4 .below AT-REFERENCES (s .«function_references») (omega arith) ∙ l3 .here;
+          addresses = l5 .below AT-TABLES (s .«jump_table_references») (omega arith) ∙ l4 .here;
           possible = l5 .here;
-          pending = l5 .past 1920 (omega arith) ∙ l4 .past 1920 (omega arith) ∙ l3 .past 1920 (omega arith) ∙ l2 .past 1920 (omega arith) ∙ l1 .past 1920 (omega arith);
+          pending = l5 .past AT-PENDING (omega arith) ∙ l4 .past AT-PENDING (omega arith) ∙ l3 .past AT-PENDING (omega arith) ∙ l2 .past AT-PENDING (omega arith) ∙ l1 .past AT-PENDING (omega arith);
         }
 
-  module _ (v : List ℕ) (lv : length v ≡ 1536) (v1 v2 v3 : List ℕ) where
+  module _ (v : List ℕ) (lv : length v ≡ VALUES) (v1 v2 v3 : List ℕ) where
     pub values-done : v1 ≡ paste v 0 (take (s .blocks) (drop (s .blocks) l)) (s .blocks)
         → v2 ≡ paste v1 256 (take (s .branches) (drop (at-tos s) l)) (s .branches)
-        → v3 ≡ paste v2 1280 (take (s .«jump_table_references») (drop (at-sizes s) l)) (s .«jump_table_references») → Values s l v v3
+        → v3 ≡ paste v2 AT-SIZES (take (s .«jump_table_references») (drop (at-sizes s) l)) (s .«jump_table_references») → Values s l v v3
     values-done e1 e2 e3 =
         let l1 : Lent 0 (s .blocks) v (part (s .blocks) (s .blocks) l) v1 = copied v 0 l (s .blocks) (s .blocks) v1 (omega (arith, lim .blocks-fit)) (omega arith) e1 in
         let l2 : Lent 256 (s .branches) v1 (part (at-tos s) (s .branches) l) v2 = copied v1 256 l (at-tos s) (s .branches) v2 (omega (arith, lim .branches-fit, l1 .size)) (omega arith) e2 in
-        let l3 : Lent 1280 (s .«jump_table_references») v2 (part (at-sizes s) (s .«jump_table_references») l) v3 = copied v2 1280 l (at-sizes s) (s .«jump_table_references») v3 (omega (arith, lim .tables-fit, l1 .size, l2 .size)) (omega arith) e3 in
+        let l3 : Lent AT-REFERENCES (s .«jump_table_references») v2 (part (at-sizes s) (s .«jump_table_references») l) v3 = copied v2 AT-SIZES l (at-sizes s) (s .«jump_table_references») v3 (omega (arith, lim .tables-fit, l1 .size, l2 .size)) (omega arith) e3 in
         let f1 : s .blocks ≤ 256 = lim .blocks-fit in
-        let f2 : s .branches ≤ 1024 = lim .branches-fit in
+        let f2 : s .branches ≤ BRANCHES = lim .branches-fit in
         record {
           size = l3 .size ∙ l2 .size ∙ l1 .size;
           ends = l3 .below 0 (s .blocks) (omega arith) ∙ l2 .below 0 (s .blocks) (omega arith) ∙ l1 .here;

@@ -16,9 +16,9 @@ use Rattle.rules.specs.OneFunction.{numbers}
 use Rattle.function_slices.specs.View.{Parts, lists-of}
 use Rattle.function_slices.specs.declared.Small.{Small}
 use Rattle.function_slices.proofs.Parts.{parts-are}
-use Rattle.known.specs.Table.{known-rows, as-block}
+use Rattle.known.specs.Table.{known-rows, as-block, KNOWN}
 use Rattle.entries.specs.Columns.{small-of, columns-of, Right, at-froms, at-tos, at-references, at-addresses, at-sizes, at-possible, numbers-long, cut, slices-from}
-use Rattle.entries.specs.Table.{row-of, info-row, numbers-in, entry-numbers, flat, odd, small-from, row-size, entry-from, entries-from, entries-of, RightIn, AllRight, Holds}
+use Rattle.entries.specs.Table.{row-of, info-row, numbers-in, entry-numbers, flat, odd, small-from, row-size, entry-from, entries-from, entries-of, RightIn, AllRight, Holds, INFOS}
 use Rattle.entries.proofs.Places.{left}
 use Rattle.entries.proofs.Loading.{numbers-size, numbers-cut}
 use Rattle.entries.proofs.Rows.{small-read, row-behind, row-numbers, begins-form}
@@ -81,7 +81,7 @@ pub one-only : (n : ℕ) (known infos lists : List ℕ) (es fs : List Entry) →
 one-only n known infos lists es fs h g = sym (entries-are n known infos lists es h) ∙ entries-are n known infos lists fs g
 
 -- nothing yet
-pub none-held : (known infos lists : List ℕ) → length known ≡ 2048 → length infos ≡ 8192 → Holds 0 known infos lists []
+pub none-held : (known infos lists : List ℕ) → length known ≡ KNOWN → length infos ≡ INFOS → Holds 0 known infos lists []
 none-held known infos lists lk li =
     record {
       kept = record { size = lk; few = omega arith; rising = tt };

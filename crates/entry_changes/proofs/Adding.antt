@@ -22,8 +22,8 @@ use Rattle.ordered.proofs.Columns.{rows-change, inserting, inserts}
 use Rattle.function_slices.specs.View.{part}
 use Rattle.function_slices.proofs.Parts.{Lent, over, lent, part-length}
 use Rattle.runs.specs.Runs.{Fits, spliced}
-use Rattle.known.specs.Table.{known-rows, as-block, Kept, Knows}
-use Rattle.entries.specs.Table.{info-row, entry-numbers, flat, Begins, Holds, Good, capacity, Told}
+use Rattle.known.specs.Table.{known-rows, as-block, Kept, Knows, ENTRIES, AT-ENDS, KNOWN}
+use Rattle.entries.specs.Table.{info-row, entry-numbers, flat, Begins, Holds, Good, capacity, Told, INFOS}
 use Rattle.entries.proofs.Rows.{rows-long, count-is}
 use Rattle.entries.proofs.Lookups as lookups
 use Rattle.entries.proofs.Reading.{entries-rise}
@@ -33,34 +33,34 @@ use Rattle.entry_changes.proofs.Splicing.{splice-begins, flat-inserted,
 
 -- ---- the two columns of known
 
-module _ (n i k : ℕ) (known : List ℕ) (le : i ≤ n) (lt : n < 1024) (lk : length known ≡ 2048) (ss : List ℕ) (ps : Inserted (part 0 1024 known) ss n i k) where
-  starts-long : length (part 0 1024 known) ≡ 1024
-  starts-long = part-length 0 1024 known (omega arith)
+module _ (n i k : ℕ) (known : List ℕ) (le : i ≤ n) (lt : n < ENTRIES) (lk : length known ≡ KNOWN) (ss : List ℕ) (ps : Inserted (part 0 ENTRIES known) ss n i k) where
+  starts-long : length (part 0 ENTRIES known) ≡ ENTRIES
+  starts-long = part-length 0 ENTRIES known (omega arith)
 
-  lent-starts : Lent 0 1024 known ss (over 0 1024 known ss)
-  lent-starts = lent 0 1024 known ss (omega arith) (ps .size ∙ starts-long)
+  lent-starts : Lent 0 ENTRIES known ss (over 0 ENTRIES known ss)
+  lent-starts = lent 0 ENTRIES known ss (omega arith) (ps .size ∙ starts-long)
 
-  same-ends : part 1024 1024 (over 0 1024 known ss) ≡ part 1024 1024 known
+  same-ends : part AT-ENDS ENTRIES (over 0 ENTRIES known ss) ≡ part AT-ENDS ENTRIES known
   unfolding part
-  same-ends = ap (take 1024) (lent-starts .past 1024 (omega arith))
+  same-ends = ap (take ENTRIES) (lent-starts .past AT-ENDS (omega arith))
 
-  ends-long : length (part 1024 1024 known) ≡ 1024
-  ends-long = part-length 1024 1024 known (omega arith)
+  ends-long : length (part AT-ENDS ENTRIES known) ≡ ENTRIES
+  ends-long = part-length AT-ENDS ENTRIES known (omega arith)
 
-  module _ (es : List ℕ) (pe : Inserted (part 1024 1024 (over 0 1024 known ss)) es n i 0) where
-    lent-ends : Lent 1024 1024 (over 0 1024 known ss) es (over 1024 1024 (over 0 1024 known ss) es)
+  module _ (es : List ℕ) (pe : Inserted (part AT-ENDS ENTRIES (over 0 ENTRIES known ss)) es n i 0) where
+    lent-ends : Lent AT-ENDS ENTRIES (over 0 ENTRIES known ss) es (over AT-ENDS ENTRIES (over 0 ENTRIES known ss) es)
     lent-ends =
-        lent 1024 1024 (over 0 1024 known ss) es (omega (arith, lent-starts .size)) (pe .size ∙ ap length same-ends ∙ ends-long)
+        lent AT-ENDS ENTRIES (over 0 ENTRIES known ss) es (omega (arith, lent-starts .size)) (pe .size ∙ ap length same-ends ∙ ends-long)
 
-    pub known-inserted : KnownAre (suc n) (insert-at i (block k 0) (known-rows n known)) (over 1024 1024 (over 0 1024 known ss) es)
+    pub known-inserted : KnownAre (suc n) (insert-at i (block k 0) (known-rows n known)) (over AT-ENDS ENTRIES (over 0 ENTRIES known ss) es)
     unfolding part
     known-inserted =
         record {
           size = lent-ends .size ∙ lent-starts .size ∙ lk;
           rows =
-              ap₂ (λ (a b : List ℕ). join block (take (suc n) a) (take (suc n) b)) (lent-ends .below 0 1024 (omega arith) ∙ lent-starts .here) (lent-ends .here)
-              ∙ rows-change block n (part 0 1024 known) (part 1024 1024 known) (omega (arith, starts-long)) (omega (arith, ends-long)) (inserting i) (inserts i) (suc n) k 0 ss es
-              (drop (suc n) (part 0 1024 known)) (drop (suc n) (part 1024 1024 known)) ps (rw same-ends at pe);
+              ap₂ (λ (a b : List ℕ). join block (take (suc n) a) (take (suc n) b)) (lent-ends .below 0 ENTRIES (omega arith) ∙ lent-starts .here) (lent-ends .here)
+              ∙ rows-change block n (part 0 ENTRIES known) (part AT-ENDS ENTRIES known) (omega (arith, starts-long)) (omega (arith, ends-long)) (inserting i) (inserts i) (suc n) k 0 ss es
+              (drop (suc n) (part 0 ENTRIES known)) (drop (suc n) (part AT-ENDS ENTRIES known)) ps (rw same-ends at pe);
         }
 
 -- ---- entries and the rows that stand for them
@@ -91,7 +91,7 @@ put-there a (x ∷ es) = by (ltb (x .entry) (a .entry)) refl (eqb (x .entry) (a 
 
 -- ---- the entry looked up
 
-module _ (n : ℕ) (known infos lists : List ℕ) (k : ℕ) (f : Found) (is : IsFound (take n (part 0 1024 known)) k f) where
+module _ (n : ℕ) (known infos lists : List ℕ) (k : ℕ) (f : Found) (is : IsFound (take n (part 0 ENTRIES known)) k f) where
   module _ (es : List Entry) (h : Holds n known infos lists es) where
     place-is : f .at ≡ rank entryOf k es
     place-is = lookups.place-is n known (h .kept) k f is es (h .knows)
@@ -166,11 +166,11 @@ module _ (n : ℕ) (known infos lists : List ℕ) (k : ℕ) (f : Found) (is : Is
 -- ---- what the functions need
 
 module _ (n : ℕ) (known infos lists : List ℕ) (g : Good n known infos lists) where
-  module _ (k m room : ℕ) (f : Found) (is : IsFound (take n (part 0 1024 known)) k f) (em : m ≡ min 1024 room) (lt : n < m) where
-    pub insert-known-fits : (f .at ≤ n) × (n < 1024) × (length known ≡ 2048)
+  module _ (k m room : ℕ) (f : Found) (is : IsFound (take n (part 0 ENTRIES known)) k f) (em : m ≡ min 1024 room) (lt : n < m) where
+    pub insert-known-fits : (f .at ≤ n) × (n < ENTRIES) × (length known ≡ KNOWN)
     insert-known-fits = (place-le n known infos lists k f is (g .entries) (g .holds), omega arith, g .holds .kept .size)
 
-    pub insert-row-fits : (f .at ≤ n) × (n < 1024) × (length infos ≡ 8192)
+    pub insert-row-fits : (f .at ≤ n) × (n < ENTRIES) × (length infos ≡ INFOS)
     insert-row-fits = (place-le n known infos lists k f is (g .entries) (g .holds), omega arith, g .holds .lent)
 
 -- the count that the splice gives

@@ -27,7 +27,7 @@ use Rattle.blocks.proofs.Puts.{row-set}
 use Rattle.blocks.proofs.Rows.{row-at}
 use Rattle.runs.specs.Runs.{Fits, spliced}
 use Rattle.runs.proofs.Laws.{splice-done}
-use Rattle.known.specs.Table.{known-rows, as-block, Kept, Knows}
+use Rattle.known.specs.Table.{known-rows, as-block, Kept, Knows, ENTRIES, AT-ENDS, KNOWN}
 use Rattle.known.proofs.Entries.{table}
 use Rattle.stored.specs.Laid.{laid, Stored}
 use Rattle.entries.specs.Columns.{small-of, numbers-long}
@@ -65,27 +65,27 @@ row-put l p s room {a} {d} {e} {f} {g} {h} ea ed ee ef eg eh =
 
 -- ---- the end of an entry
 
-module _ (n i end : ℕ) (known : List ℕ) (lt : i < n) (few : n ≤ 1024) (lk : length known ≡ 2048) (es : List ℕ) (p : Replaced (part 1024 1024 known) es n i end) where
-  starts-long : length (part 0 1024 known) ≡ 1024
-  starts-long = part-length 0 1024 known (omega arith)
+module _ (n i end : ℕ) (known : List ℕ) (lt : i < n) (few : n ≤ ENTRIES) (lk : length known ≡ KNOWN) (es : List ℕ) (p : Replaced (part AT-ENDS ENTRIES known) es n i end) where
+  starts-long : length (part 0 ENTRIES known) ≡ ENTRIES
+  starts-long = part-length 0 ENTRIES known (omega arith)
 
-  ends-long : length (part 1024 1024 known) ≡ 1024
-  ends-long = part-length 1024 1024 known (omega arith)
+  ends-long : length (part AT-ENDS ENTRIES known) ≡ ENTRIES
+  ends-long = part-length AT-ENDS ENTRIES known (omega arith)
 
-  lent-ends : Lent 1024 1024 known es (over 1024 1024 known es)
-  lent-ends = lent 1024 1024 known es (omega arith) (p .size ∙ ends-long)
+  lent-ends : Lent AT-ENDS ENTRIES known es (over AT-ENDS ENTRIES known es)
+  lent-ends = lent AT-ENDS ENTRIES known es (omega arith) (p .size ∙ ends-long)
 
-  pub end-put : KnownAre n (set (known-rows n known) i (block (getD (known-rows n known) i (block 0 0) .start) end)) (over 1024 1024 known es)
+  pub end-put : KnownAre n (set (known-rows n known) i (block (getD (known-rows n known) i (block 0 0) .start) end)) (over AT-ENDS ENTRIES known es)
   unfolding part
   end-put =
-      let hs : n ≤ length (part 0 1024 known) = omega (arith, starts-long) in
-      let he : n ≤ length (part 1024 1024 known) = omega (arith, ends-long) in
+      let hs : n ≤ length (part 0 ENTRIES known) = omega (arith, starts-long) in
+      let he : n ≤ length (part AT-ENDS ENTRIES known) = omega (arith, ends-long) in
       record {
         size = lent-ends .size ∙ lk;
         rows =
-            ap₂ (λ (a b : List ℕ). rows n a b) (lent-ends .below 0 1024 (omega arith)) (lent-ends .here)
-            ∙ row-set n i end (part 0 1024 known) (part 1024 1024 known) es hs he lt p
-            ∙ ap (λ (b : Block). set (known-rows n known) i (block (b .start) end)) (sym (row-at n (part 0 1024 known) (part 1024 1024 known) hs he i lt));
+            ap₂ (λ (a b : List ℕ). rows n a b) (lent-ends .below 0 ENTRIES (omega arith)) (lent-ends .here)
+            ∙ row-set n i end (part 0 ENTRIES known) (part AT-ENDS ENTRIES known) es hs he lt p
+            ∙ ap (λ (b : Block). set (known-rows n known) i (block (b .start) end)) (sym (row-at n (part 0 ENTRIES known) (part AT-ENDS ENTRIES known) hs he i lt));
       }
 
 map-set : (es : List Entry) (i : ℕ) (y : Entry) → set (map as-block es) i (as-block y) ≡ map as-block (set es i y)

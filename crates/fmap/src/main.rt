@@ -1,6 +1,6 @@
 // Reads an image from standard input, as lines of hexadecimal with one frame a line, and prints its map.
 //
-// crates/frames has the frames; `fmap-text` of crates/mapping is what is printed of a text of them. There is room to read 1,048,576 bytes:
+// crates/reading has the frames; `fmap-text` of crates/mapping is what is printed of a text of them. There is room to read 1,048,576 bytes:
 // a text that fills it may go on, and is refused by R 01 as one with a line that is no frame is.
 ghost use mathlib.Core.Path.{_≡_};
 ghost use Prim.Native.Nat.{_≤_};

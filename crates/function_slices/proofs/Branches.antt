@@ -206,26 +206,26 @@ module _ {n room key m : ℕ} {fs ts targets : List ℕ} {at until : ℕ} (p : P
 -- ---- the ways on among the lists
 
 module _ (l : List Branches) (f : List Branches → Slices) where
-  branches-over : ltb 1024 (count-branches l) ≡ true → (limited-branches l >>= λ x. ok (f x)) ≡ fault 4
+  branches-over : ltb BRANCHES (count-branches l) ≡ true → (limited-branches l >>= λ x. ok (f x)) ≡ fault 4
   unfolding _>>=_
-  branches-over h = rw (if-false (lt-leb (count-branches l) 1024 (ltb-true 1024 (count-branches l) h)) (ok l) (fault 4))
+  branches-over h = rw (if-false (lt-leb (count-branches l) BRANCHES (ltb-true BRANCHES (count-branches l) h)) (ok l) (fault 4))
 
-  branches-within : ltb 1024 (count-branches l) ≡ false → (limited-branches l >>= λ x. ok (f x)) ≡ ok (f l)
+  branches-within : ltb BRANCHES (count-branches l) ≡ false → (limited-branches l >>= λ x. ok (f x)) ≡ ok (f l)
   unfolding _>>=_
-  branches-within h = rw (if-true (le-leb (count-branches l) 1024 (ltb-false 1024 (count-branches l) h)) (ok l) (fault 4))
+  branches-within h = rw (if-true (le-leb (count-branches l) BRANCHES (ltb-false BRANCHES (count-branches l) h)) (ok l) (fault 4))
 
 module _ (k v : List ℕ) (s : Small) (f : Fit k v s) (fine : s .fault ≡ 0) where
-  froms-long : length (part AT-BRANCHES BRANCHES k) ≡ 1024
+  froms-long : length (part AT-BRANCHES BRANCHES k) ≡ BRANCHES
   froms-long = part-length AT-BRANCHES BRANCHES k (omega (arith, f .keys))
 
-  tos-long : length (part AT-BRANCHES BRANCHES v) ≡ 1024
+  tos-long : length (part AT-BRANCHES BRANCHES v) ≡ BRANCHES
   tos-long = part-length AT-BRANCHES BRANCHES v (omega (arith, f .values))
 
-  pub has-branches : (targets : List ℕ) (m : ℕ) → 0 < m → m ≤ length targets → HasWays (s .branches) 1024 m (part AT-BRANCHES BRANCHES k) (part AT-BRANCHES BRANCHES v) targets
+  pub has-branches : (targets : List ℕ) (m : ℕ) → 0 < m → m ≤ length targets → HasWays (s .branches) BRANCHES m (part AT-BRANCHES BRANCHES k) (part AT-BRANCHES BRANCHES v) targets
   has-branches targets m some given =
       record { count = f .held .branches-fit; froms = omega (arith, froms-long); tos = omega (arith, tos-long); some = some; given = given; rising = f .held .branches-rise }
 
-  module _ (key : ℕ) (new fs ts : List ℕ) (r : Insertion) (is : IsPut (s .branches) 1024 key new (part AT-BRANCHES BRANCHES k) (part AT-BRANCHES BRANCHES v) fs ts r) where
+  module _ (key : ℕ) (new fs ts : List ℕ) (r : Insertion) (is : IsPut (s .branches) BRANCHES key new (part AT-BRANCHES BRANCHES k) (part AT-BRANCHES BRANCHES v) fs ts r) where
     lent-froms : Lent AT-BRANCHES BRANCHES k fs (over AT-BRANCHES BRANCHES k fs)
     lent-froms = lent-part AT-BRANCHES BRANCHES k fs (omega (arith, f .keys)) (is .froms)
 

@@ -50,7 +50,7 @@ module _ (k v : List ℕ) (s : Small) (f : Fit k v s) (fine : s .fault ≡ 0) wh
         possible-rise = f .held .possible-rise;
       }) fine
 
-  pub branches-changed : (ys zs k′ v′ : List ℕ) (n : ℕ) → Lent AT-BRANCHES BRANCHES k ys k′ → Lent AT-BRANCHES BRANCHES v zs v′ → n ≤ 1024 → Rising fromOf (branches-rows n ys zs) → Are (with-branches (view k v s) (branches-rows n ys zs)) k′ v′ (counted s (s .blocks) n (s .«function_references») (s .«jump_table_references») (s .«possible_blocks»))
+  pub branches-changed : (ys zs k′ v′ : List ℕ) (n : ℕ) → Lent AT-BRANCHES BRANCHES k ys k′ → Lent AT-BRANCHES BRANCHES v zs v′ → n ≤ BRANCHES → Rising fromOf (branches-rows n ys zs) → Are (with-branches (view k v s) (branches-rows n ys zs)) k′ v′ (counted s (s .blocks) n (s .«function_references») (s .«jump_table_references») (s .«possible_blocks»))
   unfolding view P
   branches-changed ys zs k′ v′ n lk lv h rise =
       are k′ v′ (parts-of (P .starts) (P .ends) ys zs (P .references) (P .addresses) (P .sizes) (P .possible)) (counted s (s .blocks) n (s .«function_references») (s .«jump_table_references») (s .«possible_blocks»)) (branches-lent lk lv) (lk .size) (lv .size) (record {

@@ -15,7 +15,7 @@ use Rattle.rules.specs.Blocks.{Block, block, startOf, below}
 use Rattle.rules.specs.Known.{Entry, entryOf, new-entry, covers, covering, any-between}
 use Rattle.blocks.specs.Table.{rows, Table}
 use Rattle.blocks.proofs.Rows.{keys}
-use Rattle.known.specs.Table.{known-rows, as-block, Kept, Knows}
+use Rattle.known.specs.Table.{known-rows, as-block, Kept, Knows, ENTRIES, AT-ENDS}
 
 -- ---- a table of blocks and the entries that it stands for
 
@@ -105,13 +105,13 @@ module _ (k : ℕ) (es : List Entry) where
 -- ---- in the lent slice
 
 module _ (n : ℕ) (known : List ℕ) (kept : Kept n known) where
-  starts : length (take 1024 (drop 0 known)) ≡ 1024
-  starts = length-take-le 1024 (drop 0 known) (omega (arith, kept .size))
+  starts : length (take ENTRIES (drop 0 known)) ≡ ENTRIES
+  starts = length-take-le ENTRIES (drop 0 known) (omega (arith, kept .size))
 
-  ends : length (take 1024 (drop 1024 known)) ≡ 1024
-  ends = length-take-le 1024 (drop 1024 known) (omega (arith, kept .size, length-drop 1024 known))
+  ends : length (take ENTRIES (drop AT-ENDS known)) ≡ ENTRIES
+  ends = length-take-le ENTRIES (drop AT-ENDS known) (omega (arith, kept .size, length-drop AT-ENDS known))
 
-  pub table : Table n (take 1024 (drop 0 known)) (take 1024 (drop 1024 known))
+  pub table : Table n (take ENTRIES (drop 0 known)) (take ENTRIES (drop AT-ENDS known))
   table = record { starts = omega (arith, starts, kept .few); ends = omega (arith, ends, kept .few); rising = kept .rising }
 
   module _ (es : List Entry) (knows : Knows n known es) where
@@ -140,7 +140,7 @@ module _ (n : ℕ) (known : List ℕ) (kept : Kept n known) where
           let q = below-is k s e b in
           sym (covering-miss k es (sym h ∙ miss) ∙ if-false (le-ltb k _ (rw (← q .1) l)) _ _)
 
-    pub between : (low high : ℕ) (r : Bool) → r ≡ any (λ x. leb low x && leb x high) (take n (take 1024 (drop 0 known))) → r ≡ any-between low high es
+    pub between : (low high : ℕ) (r : Bool) → r ≡ any (λ x. leb low x && leb x high) (take n (take ENTRIES (drop 0 known))) → r ≡ any-between low high es
     unfolding any-between
     between low high r e =
         e ∙

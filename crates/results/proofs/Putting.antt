@@ -6,11 +6,12 @@ use native.Mathlib.Omega.{arith}
 use lib.ListN.{length, take, drop, getD, set, replicate, length-set, length-append, length-replicate, length-drop, drop-of-length-le}
 use lib.Seq.{paste, length-paste, take-paste, take-suc-set, take-set-le, length-take-le, take-all, take-at, take-suc}
 use Rattle.rules.specs.Known.{Entry, new-entry}
-use Rattle.entries.specs.Table.{info-row, entry-numbers, flat, sizes, Begins, Holds}
+use Rattle.entries.specs.Table.{info-row, entry-numbers, flat, sizes, Begins, Holds, INFOS}
 use Rattle.entries.proofs.Rows.{row-long, flat-append, begins-form, begins-le, rows-long, sizes-laid, count-is, behind, row-at}
 use Rattle.entries.proofs.Lookups.{entry-at, end-at}
 use Rattle.runs.specs.Runs.{padded}
 use Rattle.results.specs.Rows.{result-row, RowPut, RowsAre, Results}
+use Rattle.known.specs.Table.{ENTRIES, AT-ENDS}
 
 -- ---- one row
 
@@ -35,7 +36,7 @@ row-put rows p a b l out h e q =
     }
 
 -- the part of eight that is copied
-module _ (infos : List ℕ) (i : ℕ) (l : length infos ≡ 8192) (lt : i < 1024) where
+module _ (infos : List ℕ) (i : ℕ) (l : length infos ≡ INFOS) (lt : i < ENTRIES) where
   pub eight : take (i * 8 + 8 - i * 8) (drop (i * 8) infos) ≡ take 8 (drop (i * 8) infos)
   eight =
       let e : i * 8 + 8 - i * 8 ≡ 8 = omega arith in
@@ -55,14 +56,14 @@ pub going-first : (n : ℕ) (known infos lists rows : List ℕ) → Going n know
 going-first n known infos lists rows = record { size = refl; most = omega arith; done = λ es h. refl }
 
 pub going-on : (n : ℕ) (known infos lists before : List ℕ) (i : ℕ) (rows after : List ℕ) → Going n known infos lists before i rows → i < n →
-    RowPut (i * 10) (getD known i 0 ∷ getD known (1024 + i) 0 ∷ take 8 (drop (i * 8) infos)) rows after → Going n known infos lists before (i + 1) after
+    RowPut (i * 10) (getD known i 0 ∷ getD known (AT-ENDS + i) 0 ∷ take 8 (drop (i * 8) infos)) rows after → Going n known infos lists before (i + 1) after
 going-on n known infos lists before i rows after g lt p =
     record {
       size = p .size ∙ g .size;
       most = omega arith;
       done = λ es h.
           let x : Entry = getD es i (new-entry 0) in
-          let row : (getD known i 0 ∷ getD known (1024 + i) 0 ∷ take 8 (drop (i * 8) infos)) ≡ result-row x = row-is es h in
+          let row : (getD known i 0 ∷ getD known (AT-ENDS + i) 0 ∷ take 8 (drop (i * 8) infos)) ≡ result-row x = row-is es h in
           let i1 : i + 1 ≡ suc i = omega arith in
           let i10 : (i + 1) * 10 ≡ i * 10 + 10 = omega arith in
           let more : take (i + 1) es ≡ take i es ++ (x ∷ []) = ap (λ (j : ℕ). take j es) i1 ∙ take-suc es i (new-entry 0) (omega (arith, count-is n known infos lists es h)) in
@@ -70,11 +71,11 @@ going-on n known infos lists before i rows after g lt p =
           ∙ sym (flat-append result-row (take i es) (x ∷ [])) ∙ ap (flat result-row) (sym more);
     }
   where
-    row-is : (es : List Entry) → Holds n known infos lists es → (getD known i 0 ∷ getD known (1024 + i) 0 ∷ take 8 (drop (i * 8) infos)) ≡ result-row (getD es i (new-entry 0))
+    row-is : (es : List Entry) → Holds n known infos lists es → (getD known i 0 ∷ getD known (AT-ENDS + i) 0 ∷ take 8 (drop (i * 8) infos)) ≡ result-row (getD es i (new-entry 0))
     row-is es h =
         let x : Entry = getD es i (new-entry 0) in
         let a : getD known i 0 ≡ x .entry = entry-at n known (h .kept) es (h .knows) i lt in
-        let b : getD known (1024 + i) 0 ≡ x .end = end-at n known (h .kept) es (h .knows) i lt in
+        let b : getD known (AT-ENDS + i) 0 ≡ x .end = end-at n known (h .kept) es (h .knows) i lt in
         let l : take 8 (drop (i * 8) infos) ≡ info-row x = ap (take 8) (row-at n known infos lists es h i lt) ∙ take-at (info-row x) (behind n known infos lists es h i lt) 8 (row-long (x .analyzed) (x .slices)) in
         rw (a, b, l) refl
 

@@ -4,6 +4,7 @@ ghost use mathlib.Core.List.{List, _∷_};
 ghost use Prim.Native.Nat.{_+_, _*_, _≤_, _<_};
 ghost use lib.ListN.{length, take, drop, getD};
 ghost use Rattle.rules.specs.Known.{Entry};
+ghost use Rattle.known.specs.Table.{ENTRIES, AT-ENDS};
 ghost use Rattle.entries.specs.Table.{Holds, Good, KNOWN, INFOS};
 ghost use Rattle.runs.specs.Runs.{padded};
 ghost use Rattle.results.specs.Rows.{RowPut, RowsAre, Results};
@@ -12,11 +13,11 @@ ghost use Rattle.results.specs.Rows.{RowPut, RowsAre, Results};
 fn put_row(rows: &mut [u64], known: &[u64], infos: &[u64], i: usize)
     requires { ⌜ (length (now known) ≡ KNOWN) ×
         (length (now infos) ≡ INFOS) ×
-        (i < 1024) ×
+        (i < ENTRIES) ×
         (i * 10 + 10 ≤ length (now rows)) ⌝ }
     ensures { λ _.
         ⌜ RowPut (i * 10)
-        (getD (now (known .entry)) i 0 ∷ getD (now (known .entry)) (1024 + i) 0 ∷ take 8
+        (getD (now (known .entry)) i 0 ∷ getD (now (known .entry)) (AT-ENDS + i) 0 ∷ take 8
         (drop (i * 8) (now (infos .entry))))
         (now (rows .entry)) (now (rows .exit)) ⌝ }
 {
@@ -24,7 +25,7 @@ fn put_row(rows: &mut [u64], known: &[u64], infos: &[u64], i: usize)
     let a = i * 8;
     let b = a + 8;
     rows[p] = known[i];
-    rows[p + 1] = known[1024 + i];
+    rows[p + 1] = known[known::AT_ENDS + i];
     runs::copy_in(rows, p + 2, &infos[a..b], 8);
 }
 

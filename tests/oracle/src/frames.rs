@@ -1,4 +1,4 @@
-//! An image in frames, as `fmap` reads it (crates/frames/specs/Frames.antt has the form of each line), put into the lists.
+//! An image in frames, as `fmap` reads it (crates/reading/specs/Frames.antt has the form of each line), put into the lists.
 use crate::lists::{CODE, Lists};
 
 /// Code words that `fmap` takes.
