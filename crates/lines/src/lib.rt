@@ -393,7 +393,7 @@ pub fn next_image(
         }
         turn += 1;
     }
-    r
+    told(r)
 }
 
 // An image that is not to be answered is told. A line that is not of the format comes before too little room; where the input ended before

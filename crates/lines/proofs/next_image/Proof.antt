@@ -45,4 +45,5 @@ next-image-spec =
     (λ c. search needs)
     loop-less
     loop-again
+    (λ c κs. search needs)
     returns-3)
