@@ -1,10 +1,10 @@
 // Reads an image from standard input, as lines of hexadecimal with one frame a line, and prints its map.
 //
-// crates/reading has the frames; `fmap-text` of crates/mapping is what is printed of a text of them. There is room to read 1,048,576 bytes:
+// crates/reading has the frames; `fmap_text` of crates/mapping is what is printed of a text of them. There is room to read 1,048,576 bytes:
 // a text that fills it may go on, and is refused by R 01 as one with a line that is no frame is.
 ghost use Rattle.std.specs.Prelude.{◌≡◌, ◌≤◌, length};
 ghost use Rattle.printing.specs.Told.{Begun};
-ghost use Rattle.mapping.specs.Answers.{fmap-text};
+ghost use Rattle.mapping.specs.Answers.{fmap_text};
 ghost use Rattle.fmap.specs.Part.{part};
 
 type Text = [u8; 1048576];
@@ -24,7 +24,7 @@ fn read_text(text: &mut Text) -> usize
 fn map_read(text: &Text, count: usize, out: &mut Out) -> usize
     requires read { count ≤ length text.now }
     requires room { length out.old ≡ 1489000 }
-    ensures { Begun (fmap-text (part 0 count text.now)) out.old out.new result }
+    ensures { Begun (fmap_text (part 0 count text.now)) out.old out.new result }
 {
     let all: &[u8] = text;
     mapping::fmap_text(&all[0..count], out)

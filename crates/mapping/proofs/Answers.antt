@@ -28,33 +28,33 @@ use Rattle.printing.specs.Told.{Begun}
 use Rattle.printing.proofs.Maps.{results_tell}
 use Rattle.cfa.specs.Maps.{room_of, Told}
 use Rattle.cfa.specs.declared.Map.{Map}
-use Rattle.mapping.specs.Answers.{answer, map-text, image-room, map_room, text-room, fmap-text, Shows, Showing, Sized}
+use Rattle.mapping.specs.Answers.{answer, map_text, image_room, map_room, text_room, fmap_text, Shows, Showing, Sized}
 
 -- ---- an answer printed
 
 module _ (number n : ℕ) (rows lists : List ℕ) where
-  shows-telling : (a : Answer (List Entry)) → Shows a number n rows lists → number ≡ 0 → Telling n rows lists
-  shows-telling (ok es) s z = record { entries = es; tells = s.1 }
-  shows-telling (fault m) s z = absurd (omega (arith, s.0, s.1))
+  shows_telling : (a : Answer (List Entry)) → Shows a number n rows lists → number ≡ 0 → Telling n rows lists
+  shows_telling (ok es) s z = record { entries = es; tells = s.1 }
+  shows_telling (fault m) s z = absurd (omega (arith, s.0, s.1))
 
   shows_low : (a : Answer (List Entry)) → Shows a number n rows lists → (number ≡ 0 → ⊥) → number < 100
   shows_low (ok es) s z = absurd (z s.0)
   shows_low (fault m) s z = omega (arith, s.0, s.2)
 
   pub telling : Showing number n rows lists → number ≡ 0 → Telling n rows lists
-  telling s z = shows-telling s.of-run s.shows z
+  telling s z = shows_telling s.of_run s.shows z
 
   pub number_low : Showing number n rows lists → (number ≡ 0 → ⊥) → number < 100
-  number_low s z = shows_low s.of-run s.shows z
+  number_low s z = shows_low s.of_run s.shows z
 
   module _ (out out' : List ℕ) (r : ℕ) where
-    pub map-shown : number ≡ 0 → ((es : List Entry) → Tells n rows lists es → Begun (text (lines (ok es))) out out' r) → (a : Answer (List Entry)) → Shows a number n rows lists → Begun (text (lines a)) out out' r
-    map-shown z b (ok es) s = b es s.1
-    map-shown z b (fault m) s = absurd (omega (arith, s.0, s.1))
+    pub map_shown : number ≡ 0 → ((es : List Entry) → Tells n rows lists es → Begun (text (lines (ok es))) out out' r) → (a : Answer (List Entry)) → Shows a number n rows lists → Begun (text (lines a)) out out' r
+    map_shown z b (ok es) s = b es s.1
+    map_shown z b (fault m) s = absurd (omega (arith, s.0, s.1))
 
-    pub refusal-shown : (number ≡ 0 → ⊥) → Begun (text (lines (fault number))) out out' r → (a : Answer (List Entry)) → Shows a number n rows lists → Begun (text (lines a)) out out' r
-    refusal-shown z b (ok es) s = absurd (z s.0)
-    refusal-shown z b (fault m) s = rw s.0 at b
+    pub refusal_shown : (number ≡ 0 → ⊥) → Begun (text (lines (fault number))) out out' r → (a : Answer (List Entry)) → Shows a number n rows lists → Begun (text (lines a)) out out' r
+    refusal_shown z b (ok es) s = absurd (z s.0)
+    refusal_shown z b (fault m) s = rw s.0 at b
 
 -- ---- the answer of a run
 
@@ -71,27 +71,27 @@ module _ (g : Given) (cap : Capacity) where
       by (inr p) = (omega (arith, p.1.0), omega (arith, p.1.1))
 
 module _ (rows₀ lists₀ rows lists : List ℕ) (r : Map) where
-  told-shows-at : (g : Given) (cap : Capacity) (a : Answer (List Entry)) → run g cap ≡ a → Told a rows₀ lists₀ rows lists r → Shows a r.number r.entries rows lists
-  told-shows-at g cap (ok es) e t = (
+  told_shows_at : (g : Given) (cap : Capacity) (a : Answer (List Entry)) → run g cap ≡ a → Told a rows₀ lists₀ rows lists r → Shows a r.number r.entries rows lists
+  told_shows_at g cap (ok es) e t = (
     ap (λ (m : Map). m.number) t.answers.0,
     results_tell r.entries es rows₀ lists₀ rows lists r.numbers (sym (ap (λ (m : Map). m.entries) t.answers.0)) t.right (record { rows_are = t.answers.1; lists_are = t.answers.2; total_is = ap (λ (m : Map). m.numbers) t.answers.0 }),
   )
-  told-shows-at g cap (fault n) e t = let p : (1 ≤ n) × (n < 100) = low g cap n e in (ap (λ (m : Map). m.number) t.answers.0, p.0, p.1)
+  told_shows_at g cap (fault n) e t = let p : (1 ≤ n) × (n < 100) = low g cap n e in (ap (λ (m : Map). m.number) t.answers.0, p.0, p.1)
 
-  pub told-shows : (g : Given) (cap : Capacity) → Told (run g cap) rows₀ lists₀ rows lists r → Shows (run g cap) r.number r.entries rows lists
-  told-shows g cap t = told-shows-at g cap (run g cap) refl t
+  pub told_shows : (g : Given) (cap : Capacity) → Told (run g cap) rows₀ lists₀ rows lists r → Shows (run g cap) r.number r.entries rows lists
+  told_shows g cap t = told_shows_at g cap (run g cap) refl t
 
-  pub told-showing : (g : Given) (cap : Capacity) → Told (run g cap) rows₀ lists₀ rows lists r → Showing r.number r.entries rows lists
-  told-showing g cap t = record { of-run = run g cap; shows = told-shows g cap t }
+  pub told_showing : (g : Given) (cap : Capacity) → Told (run g cap) rows₀ lists₀ rows lists r → Showing r.number r.entries rows lists
+  told_showing g cap t = record { of_run = run g cap; shows = told_shows g cap t }
 
   -- no more entries than the rows have room for
-  entries-few : (a : Answer (List Entry)) → Told a rows₀ lists₀ rows lists r → length rows ≡ length rows₀ → r.entries ≤ length rows₀ / 10
-  entries-few (ok es) t k =
+  entries_few : (a : Answer (List Entry)) → Told a rows₀ lists₀ rows lists r → length rows ≡ length rows₀ → r.entries ≤ length rows₀ / 10
+  entries_few (ok es) t k =
       omega (arith, ap (λ (m : Map). m.entries) t.answers.0, ap length t.answers.1, length-append (flat result_row es) (replicate (length rows₀ - length (flat result_row es)) 0), rows_long es)
-  entries-few (fault n) t k = omega (arith, ap (λ (m : Map). m.entries) t.answers.0)
+  entries_few (fault n) t k = omega (arith, ap (λ (m : Map). m.entries) t.answers.0)
 
-  pub told-room : (a : Answer (List Entry)) (size : ℕ) → Told a rows₀ lists₀ rows lists r → length rows ≡ length rows₀ → length lists ≡ length lists₀ → 6 + 46 * (length rows₀ / 10) + 11 * length lists₀ ≤ size → 6 + 46 * r.entries + 11 * length lists ≤ size
-  told-room a size t k l h = omega (arith, entries-few a t k)
+  pub told_room : (a : Answer (List Entry)) (size : ℕ) → Told a rows₀ lists₀ rows lists r → length rows ≡ length rows₀ → length lists ≡ length lists₀ → 6 + 46 * (length rows₀ / 10) + 11 * length lists₀ ≤ size → 6 + 46 * r.entries + 11 * length lists ≤ size
+  told_room a size t k l h = omega (arith, entries_few a t k)
 
 -- ---- the lists that a text came to
 
@@ -99,32 +99,32 @@ pub first : (n : ℕ) (l : List ℕ) → take (n - 0) (drop 0 l) ≡ take n l
 first n l = let z : n - 0 ≡ n = omega arith in rw z
 
 module _ (q : Reading) (s b o f j k e : List ℕ) (cap : Capacity) (out out' : List ℕ) (r : ℕ) where
-  pub read-answered : q.ok ≡ true → Begun (text (lines (run (given (lent (take (q.sections - 0) (drop 0 s)) (take (q.bytes - 0) (drop 0 b)) (take (q.outcomes - 0) (drop 0 o)) (take (q.functions - 0) (drop 0 f)) (take (q.objects - 0) (drop 0 j)) (take (q.skips - 0) (drop 0 k)) (take (q.entry - 0) (drop 0 e)))) cap))) out out' r → Begun (text (lines (answer (view q s b o f j k e) cap))) out out' r
+  pub read_answered : q.ok ≡ true → Begun (text (lines (run (given (lent (take (q.sections - 0) (drop 0 s)) (take (q.bytes - 0) (drop 0 b)) (take (q.outcomes - 0) (drop 0 o)) (take (q.functions - 0) (drop 0 f)) (take (q.objects - 0) (drop 0 j)) (take (q.skips - 0) (drop 0 k)) (take (q.entry - 0) (drop 0 e)))) cap))) out out' r → Begun (text (lines (answer (view q s b o f j k e) cap))) out out' r
   unfolding view if
-  read-answered h p = rw h (rw (first q.sections s, first q.bytes b, first q.outcomes o, first q.functions f, first q.objects j, first q.skips k, first q.entry e) at p)
+  read_answered h p = rw h (rw (first q.sections s, first q.bytes b, first q.outcomes o, first q.functions f, first q.objects j, first q.skips k, first q.entry e) at p)
 
-  pub not-read : q.ok ≡ false → Begun (text (lines (fault 1))) out out' r → Begun (text (lines (answer (view q s b o f j k e) cap))) out out' r
+  pub not_read : q.ok ≡ false → Begun (text (lines (fault 1))) out out' r → Begun (text (lines (answer (view q s b o f j k e) cap))) out out' r
   unfolding view if
-  not-read h p = rw h p
+  not_read h p = rw h p
 
-pub text-mapped : (t : List ℕ) (q : Reading) (s s' b b' o o' f f' j j' k k' e e' : List ℕ) (cap : Capacity) (out out' : List ℕ) (r : ℕ) → TextRead t q s s' b b' o o' f f' j j' k k' e e' → Begun (text (lines (answer (view q s' b' o' f' j' k' e') cap))) out out' r → Begun (map-text (room s b o f j k e) cap t) out out' r
-unfolding map-text
-text-mapped t q s s' b b' o o' f f' j j' k k' e e' cap out out' r x p = rw x.same at p
+pub text_mapped : (t : List ℕ) (q : Reading) (s s' b b' o o' f f' j j' k k' e e' : List ℕ) (cap : Capacity) (out out' : List ℕ) (r : ℕ) → TextRead t q s s' b b' o o' f f' j j' k k' e e' → Begun (text (lines (answer (view q s' b' o' f' j' k' e') cap))) out out' r → Begun (map_text (room s b o f j k e) cap t) out out' r
+unfolding map_text
+text_mapped t q s s' b b' o o' f f' j j' k k' e e' cap out out' r x p = rw x.same at p
 
 -- ---- the room that `fmap` has
 
 module _ (s b o f j k e rows lists out : List ℕ) (z : Sized s b o f j k e rows lists out) where
-  pub room-enough : 6 + 46 * (length rows / 10) + 11 * length lists ≤ length out
-  room-enough = omega (arith, z.size-rows, z.size-lists, z.size-out)
+  pub room_enough : 6 + 46 * (length rows / 10) + 11 * length lists ≤ length out
+  room_enough = omega (arith, z.size_rows, z.size_lists, z.size_out)
 
   ten : length rows / 10 ≡ 1024
-  ten = omega (arith, z.size-rows)
+  ten = omega (arith, z.size_rows)
 
-  pub in-room : (t out' : List ℕ) (r : ℕ) → Begun (map-text (room s b o f j k e) (room_of rows lists) t) out out' r → Begun (map-text image-room map_room t) out out' r
-  in-room t out' r p = rw (z.size_s, z.size_b, z.size_o, z.size_f, z.size_j, z.size_k, z.size_e, ten, z.size-lists) at p
+  pub in_room : (t out' : List ℕ) (r : ℕ) → Begun (map_text (room s b o f j k e) (room_of rows lists) t) out out' r → Begun (map_text image_room map_room t) out out' r
+  in_room t out' r p = rw (z.size_s, z.size_b, z.size_o, z.size_f, z.size_j, z.size_k, z.size_e, ten, z.size_lists) at p
 
-pub zeros-sized : (out : List ℕ) → length out ≡ 1489000 → Sized (replicate 36 0) (replicate 393216 0) (replicate 6144 0) (replicate 3075 0) (replicate 3075 0) (replicate 130 0) (replicate 2 0) (replicate 10240 0) (replicate 131072 0) out
-zeros-sized out h =
+pub zeros_sized : (out : List ℕ) → length out ≡ 1489000 → Sized (replicate 36 0) (replicate 393216 0) (replicate 6144 0) (replicate 3075 0) (replicate 3075 0) (replicate 130 0) (replicate 2 0) (replicate 10240 0) (replicate 131072 0) out
+zeros_sized out h =
     record {
       size_s = length-replicate {A = ℕ} 36 0;
       size_b = length-replicate {A = ℕ} 393216 0;
@@ -133,24 +133,24 @@ zeros-sized out h =
       size_j = length-replicate {A = ℕ} 3075 0;
       size_k = length-replicate {A = ℕ} 130 0;
       size_e = length-replicate {A = ℕ} 2 0;
-      size-rows = length-replicate {A = ℕ} 10240 0;
-      size-lists = length-replicate {A = ℕ} 131072 0;
-      size-out = h;
+      size_rows = length-replicate {A = ℕ} 10240 0;
+      size_lists = length-replicate {A = ℕ} 131072 0;
+      size_out = h;
     }
 
 -- ---- the texts that `fmap` reads
 
-short : (t : List ℕ) → length t < text-room → fmap-text t ≡ map-text image-room map_room t
-unfolding fmap-text
-short t h = if_true (lt-ltb (length t) text-room h) _ _
+short : (t : List ℕ) → length t < text_room → fmap_text t ≡ map_text image_room map_room t
+unfolding fmap_text
+short t h = if_true (lt-ltb (length t) text_room h) _ _
 
-long : (t : List ℕ) → text-room ≤ length t → fmap-text t ≡ text (lines (fault 1))
-unfolding fmap-text
-long t h = if_false (le-ltb (length t) text-room h) _ _
+long : (t : List ℕ) → text_room ≤ length t → fmap_text t ≡ text (lines (fault 1))
+unfolding fmap_text
+long t h = if_false (le-ltb (length t) text_room h) _ _
 
 module _ (t out out' : List ℕ) (r : ℕ) where
-  pub short-mapped : length t < text-room → Begun (map-text image-room map_room t) out out' r → Begun (fmap-text t) out out' r
-  short-mapped h p = rw (short t h) p
+  pub short_mapped : length t < text_room → Begun (map_text image_room map_room t) out out' r → Begun (fmap_text t) out out' r
+  short_mapped h p = rw (short t h) p
 
-  pub long-refused : text-room ≤ length t → Begun (text (lines (fault 1))) out out' r → Begun (fmap-text t) out out' r
-  long-refused h p = rw (long t h) p
+  pub long_refused : text_room ≤ length t → Begun (text (lines (fault 1))) out out' r → Begun (fmap_text t) out out' r
+  long_refused h p = rw (long t h) p

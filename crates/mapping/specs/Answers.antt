@@ -17,13 +17,13 @@ answer none cap = fault 1
 answer (some l) cap = run (given l) cap
 
 -- the whole of `fmap`: what it prints of a text, where the lists have this room
-unfoldable pub map-text : Room → Capacity → List ℕ → List ℕ
-map-text m cap t = text (lines (answer (read_text m t) cap))
+unfoldable pub map_text : Room → Capacity → List ℕ → List ℕ
+map_text m cap t = text (lines (answer (read_text m t) cap))
 
 -- the room that `fmap` has: a row more than the rules allow of sections, symbols, skip ranges and entry points; 1,024 code words; the bytes
 -- of all sections together
-abbrev pub image-room : Room
-image-room =
+abbrev pub image_room : Room
+image_room =
     record { sections = 36; bytes = 393216; outcomes = 6144; functions = 3075; objects = 3075; skips = 130; entry = 2 }
 
 -- and for its map: as many entries as a walk may have, and their numbers
@@ -31,12 +31,12 @@ abbrev pub map_room : Capacity
 map_room = record { entries = 1024; numbers = 131072 }
 
 -- the texts that `fmap` takes are shorter than this; a longer one is refused as one with a line that is no frame is
-abbrev pub text-room : ℕ
-text-room = 1048576
+abbrev pub text_room : ℕ
+text_room = 1048576
 
 -- what `fmap` prints of a text
-unfoldable pub fmap-text : List ℕ → List ℕ
-fmap-text t = if (ltb (length t) text-room) (map-text image-room map_room t) (text (lines (fault 1)))
+unfoldable pub fmap_text : List ℕ → List ℕ
+fmap_text t = if (ltb (length t) text_room) (map_text image_room map_room t) (text (lines (fault 1)))
 
 -- ---- inside
 
@@ -47,8 +47,8 @@ Shows (fault m) number n rows lists = (number ≡ m) × (1 ≤ m) × (m < 100)
 
 -- some answer is
 pub record Showing (number n : ℕ) (rows lists : List ℕ) : Type 0 where
-  pub of-run : Answer (List Entry)
-  pub shows : Shows of-run number n rows lists
+  pub of_run : Answer (List Entry)
+  pub shows : Shows of_run number n rows lists
 
 -- the lent slices have the room that `fmap` has, and the text of a map has its own
 pub record Sized (s b o f j k e rows lists out : List ℕ) : Type 0 where
@@ -59,6 +59,6 @@ pub record Sized (s b o f j k e rows lists out : List ℕ) : Type 0 where
   pub size_j : length j ≡ 3075
   pub size_k : length k ≡ 130
   pub size_e : length e ≡ 2
-  pub size-rows : length rows ≡ 10240
-  pub size-lists : length lists ≡ 131072
-  pub size-out : length out ≡ 1489000
+  pub size_rows : length rows ≡ 10240
+  pub size_lists : length lists ≡ 131072
+  pub size_out : length out ≡ 1489000

@@ -8,7 +8,7 @@ ghost use Rattle.obj_image.specs.Lent.{lent, given};
 ghost use Rattle.reading.specs.View.{view, Fit};
 ghost use Rattle.printing.specs.Told.{Begun};
 ghost use Rattle.cfa.specs.Maps.{room_of};
-ghost use Rattle.mapping.specs.Answers.{answer, map-text, image-room, map_room, fmap-text, Shows, Showing, Sized};
+ghost use Rattle.mapping.specs.Answers.{answer, map_text, image_room, map_room, fmap_text, Shows, Showing, Sized};
 
 use reading::state::Reading;
 
@@ -123,7 +123,7 @@ fn map_text(
 ) -> usize
     requires sized { Sized sections.old bytes.old outcomes.old functions.old objects.old skips.old entry.old
         rows.old lists.old out.old }
-    ensures { Begun (map-text image-room map_room text.now) out.old out.new result }
+    ensures { Begun (map_text image_room map_room text.now) out.old out.new result }
 {
     let q = reading::texts::read_image(
         text, sections, bytes, outcomes, functions, objects, skips, entry,
@@ -136,7 +136,7 @@ fn map_text(
 // The same with the room that `fmap` has for an image and its map.
 fn map_image(text: &[u8], out: &mut [u8; 1489000]) -> usize
     requires room { length out.old ≡ 1489000 }
-    ensures { Begun (map-text image-room map_room text.now) out.old out.new result }
+    ensures { Begun (map_text image_room map_room text.now) out.old out.new result }
 {
     let mut sections: [u32; 36] = [0; 36];
     let mut bytes: [u8; 393216] = [0; 393216];
@@ -166,7 +166,7 @@ fn map_image(text: &[u8], out: &mut [u8; 1489000]) -> usize
 // refused as one with a line that is no frame is.
 pub fn fmap_text(text: &[u8], out: &mut [u8; 1489000]) -> usize
     requires { length out.old ≡ 1489000 }
-    ensures { Begun (fmap-text text.now) out.old out.new result }
+    ensures { Begun (fmap_text text.now) out.old out.new result }
 {
     if text.len() >= 1048576 {
         return printing::put_refusal(1, out);

@@ -7,7 +7,7 @@ mod cutting;
 ghost use Rattle.std.specs.Prelude.{◌≡◌, ◌-◌, ◌<◌, ◌≤◌, length, take, drop};
 ghost use Rattle.std.proofs.Math.Seq.{paste};
 ghost use Rattle.printing.specs.Told.{Begun};
-ghost use Rattle.mapping.specs.Answers.{fmap-text};
+ghost use Rattle.mapping.specs.Answers.{fmap_text};
 ghost use Rattle.replay.specs.Rest.{Rest, Kept, LineEnded};
 
 // Room for the longest image, and for 65,536 bytes more.
@@ -28,7 +28,7 @@ struct Read {
 // What `fmap` prints of an image: `out` begins with it, and is as it was behind it. The answer is how long it is.
 fn map_one(image: &[u8], out: &mut Out) -> usize
     requires { length out.old ≡ 1489000 }
-    ensures { Begun (fmap-text image.now) out.old out.new result }
+    ensures { Begun (fmap_text image.now) out.old out.new result }
 {
     mapping::fmap_text(image, out)
 }

@@ -1,12 +1,12 @@
-use Rattle.mapping.proofs.Answers.{zeros-sized}
+use Rattle.mapping.proofs.Answers.{zeros_sized}
 use Rattle.mapping.proofs.map_image.Statement.{statement}
 use Rattle.mapping.proofs.map_image.Tie as tie
 
 map-text-requires : tie.Need-map-text-requires
-map-text-requires c κs = zeros-sized _ c.before.before.before.before.before.before.before.before.before.before.before.requires
+map-text-requires c κs = zeros_sized _ c.before.before.before.before.before.before.before.before.before.before.before.requires
 
 returns : tie.Need-returns
-returns c = c.map-text.ensures
+returns c = c.map_text.ensures
 
 pub map_image_spec : {M : Type 1} → statement M
 map_image_spec =

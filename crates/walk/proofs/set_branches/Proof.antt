@@ -1,11 +1,11 @@
-use Rattle.walk.proofs.Answers.{on-changed}
+use Rattle.walk.proofs.Answers.{on_changed}
 use Rattle.rules.proofs.Faults.{set_branches_met}
 use borrow.Author.Rules.{rules}
 use Rattle.walk.proofs.set_branches.Statement.{statement}
 use Rattle.walk.proofs.set_branches.Tie as tie
 
 returns : tie.Need-returns
-returns c = λ vis. on-changed vis _ _ _ _ _ _ _ _ c.before.before.before.before.before.before.before.before.before.before.before.requires.0 (set_branches_met _ _ _) c.before.before.before.before.before.set_branches.ensures c.with_small.ensures
+returns c = λ vis. on_changed vis _ _ _ _ _ _ _ _ c.before.before.before.before.before.before.before.before.before.before.before.requires.0 (set_branches_met _ _ _) c.before.before.before.before.before.set_branches.ensures c.with_small.ensures
 
 pub set_branches_spec : {M : Type 1} → statement M
 set_branches_spec =
