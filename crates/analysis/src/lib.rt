@@ -1,4 +1,6 @@
 // The entries of jump tables (analysis/mod.rs).
+#![tactic(auto)]
+
 ghost use Rattle.std.specs.Prelude.{◌≡◌, true, [], ◌∷◌, ◌+◌, ◌*◌, ◌-◌, min, ◌<◌, ◌≤◌, length, drop};
 ghost use Rattle.rules.specs.Bytes.{words_in};
 ghost use Rattle.rules.specs.Image as images;

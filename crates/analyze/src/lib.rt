@@ -1,4 +1,6 @@
 // FunctionSlices::analyze: the walk from a start, passes until no block stands apart, and passes up to a known end.
+#![tactic(auto)]
+
 pub mod passes;
 mod plain;
 pub mod run;

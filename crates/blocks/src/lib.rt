@@ -1,4 +1,6 @@
 // The table of a function's basic blocks, ascending by start: two lent slices, starts and ends. An open block ends at 0.
+#![tactic(auto)]
+
 ghost use Rattle.std.specs.Prelude.{◌≡◌, true, ◌||◌, false, ◌∷◌, min, ◌+◌, ◌<◌, ◌≤◌, ltb, length, get_or};
 ghost use Rattle.rules.specs.Ordered.{has, put};
 ghost use Rattle.rules.specs.Blocks.{block, start_of, below, cut, first_start, last_start};

@@ -6,6 +6,8 @@
 // tables and possible blocks it has. `lists` gets the numbers of the functions' lists, one function's directly behind the other's: the
 // starts of its basic blocks and their ends (0 for an open one), the words that ways on are from and where they go, the references, the
 // addresses and sizes of its jump tables. Past both there are zeros. Addresses have their section: (section + 1) * 2^32 + address.
+#![tactic(auto)]
+
 ghost use Rattle.std.specs.Prelude.{◌≡◌, List, length};
 ghost use Rattle.rules.specs.Choice.{Answer};
 ghost use Rattle.rules.specs.Image.{Image};

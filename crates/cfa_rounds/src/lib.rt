@@ -1,4 +1,6 @@
 // The turns of AnalyzerState::detect_functions: each walks an entry, finalizes what it can, or finds new entries.
+#![tactic(auto)]
+
 mod finalizing;
 pub mod first;
 mod process;

@@ -9,6 +9,8 @@
 // `fault` and 9, 10 or 4. A branch gives no size, so there it is 0. A table without a size may lead to where a walk straight from its
 // function's start would let it: from the last function symbol at or below the word that names it, or else from code's first word, up
 // to the end that the symbol knows, or else up to that word's own end.
+#![tactic(auto)]
+
 mod tables;
 
 use lines::{Bytes, Numbers, Space};

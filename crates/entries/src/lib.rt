@@ -1,5 +1,7 @@
 // The entries of the map in lent slices: known (entries and ends), infos (a row of eight numbers for each entry) and lists (the numbers of
 // the functions' lists, one function's directly behind the other's): where an entry's numbers are, and its lists loaded.
+#![tactic(auto)]
+
 ghost use Rattle.std.specs.Prelude.{◌≡◌, ◌&&◌, List, ◌+◌, ◌*◌, ◌/◌, ◌<◌, ◌≤◌, length, take, drop, get_or, eqb};
 ghost use Rattle.std.proofs.Math.Option.{some};
 ghost use Rattle.std.proofs.Math.Seq.{paste};

@@ -1,4 +1,6 @@
 // The executor's marks: which code words were visited, a bit each, and the addresses that are pending, the highest taken first.
+#![tactic(auto)]
+
 ghost use Rattle.std.specs.Prelude.{◌≡◌, false, ◌+◌, ◌<◌, ◌≤◌, length};
 ghost use Rattle.rules.specs.Walk.{with_one};
 ghost use Rattle.rules.specs.Step.{insert};

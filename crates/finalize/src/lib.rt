@@ -1,4 +1,6 @@
 // FunctionSlices::finalize: whether a function's lists are whole, and a last word that belongs to it still.
+#![tactic(auto)]
+
 ghost use Rattle.std.specs.Prelude.{◌≡◌, ℕ, ◌+◌, ◌-◌, ◌<◌, ◌≤◌, not, ◌&&◌, ◌||◌, List, length, take, drop, ◌==◌, slice_index};
 ghost use Rattle.rules.specs.Choice.{any};
 ghost use Rattle.rules.specs.Address.{address_of};

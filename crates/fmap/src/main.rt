@@ -2,6 +2,8 @@
 //
 // crates/reading has the frames; `fmap_text` of crates/mapping is what is printed of a text of them. There is room to read 1,048,576 bytes:
 // a text that fills it may go on, and is refused by R 01 as one with a line that is no frame is.
+#![tactic(auto)]
+
 ghost use Rattle.std.specs.Prelude.{◌≡◌, ◌≤◌, length};
 ghost use Rattle.printing.specs.Told.{Begun};
 ghost use Rattle.mapping.specs.Answers.{fmap_text};

@@ -1,4 +1,6 @@
 // A function's lists (`FunctionSlices`) in two lent slices, keys and values, each table at a place of its own.
+#![tactic(auto)]
+
 ghost use Rattle.std.specs.Prelude.{◌≡◌, ◌&&◌, [], suc, ◌<◌, ◌≤◌, leb, length, take};
 ghost use Rattle.rules.specs.Ordered.{self, rank, has, upper, Rising};
 ghost use Rattle.rules.specs.Blocks.{block, start_of, first_start, last_start, last_end, first_disconnected_block, is_open};

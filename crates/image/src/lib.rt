@@ -1,4 +1,6 @@
 // An image as one lent list of numbers, which begins with a header, and its bytes: the lists that lie in it, and checks 1 to 3.
+#![tactic(auto)]
+
 ghost use Rattle.std.specs.Prelude.{◌≡◌, ◌+◌, ◌≤◌, ◌<◌};
 ghost use Rattle.rules.specs.Check as rules;
 ghost use Rattle.obj.specs.Lent.{given};

@@ -1,5 +1,7 @@
 // The known functions in a lent slice of 2,048 numbers: n entries, ascending, from its beginning, and their ends from its middle; an
 // end that is not known is 0.
+#![tactic(auto)]
+
 ghost use Rattle.std.specs.Prelude.{◌≡◌, List};
 ghost use Rattle.rules.specs.Ordered.{has};
 ghost use Rattle.rules.specs.Known as rules;

@@ -12,6 +12,8 @@
 //
 // An image with a line that is not of this form, or that no `=` ends, is told by `?`; one with more than 400,000 numbers or 300,000
 // bytes by `!`.
+#![tactic(auto)]
+
 
 // Where the next byte stands: at a line's start, among the line's numbers, in the count behind `*`, in a remark, behind `=`, or in
 // a line that is not of the format.

@@ -1,4 +1,6 @@
 // The whole of `fmap` on lent slices: a text of frames in, the text of its map out.
+#![tactic(auto)]
+
 ghost use Rattle.std.specs.Prelude.{◌≡◌, List, ◌+◌, ◌*◌, ◌/◌, ◌≤◌, length};
 ghost use Rattle.rules.specs.Choice.{Answer};
 ghost use Rattle.rules.specs.Known.{Entry};

@@ -1,4 +1,6 @@
 // The public mark: one address in a lent table of blocks, which may be any.
+#![tactic(auto)]
+
 ghost use Rattle.std.specs.Prelude.{◌≡◌, ◌+◌, ◌<◌, ◌≤◌, min, true, [], ◌∷◌, length, drop};
 ghost use Rattle.rules.specs.Blocks.{block, is_block, is_table, most_blocks};
 ghost use Rattle.blocks.specs.Table.{rows};

@@ -11,6 +11,8 @@
 //   entry      address: no row, or one
 //
 // A way is 1 to an address, 2 to a table, 3 elsewhere, and 4 more with link. A row that is not whole breaks the rules of its list.
+#![tactic(auto)]
+
 pub mod checks;
 pub mod outcomes;
 pub mod sections;

@@ -4,6 +4,8 @@
 // end, 0 for none; entries ascend), and a list for the result. Addresses have their section: (section + 1) * 2^32 + address. The
 // result's list gets, column after column: the starts of the basic blocks and their ends (0 for an open one), the words that ways on
 // are from and where they go, the references, the addresses and sizes of the jump tables, the possible blocks; and zeros past them.
+#![tactic(auto)]
+
 mod known_rows;
 
 ghost use Rattle.std.specs.Prelude.{◌≡◌, List, [], ℕ, ◌/◌, ◌<◌, length};

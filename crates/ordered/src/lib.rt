@@ -1,4 +1,6 @@
 // The operations on the first n elements of a slice that every ascending table is made of.
+#![tactic(auto)]
+
 ghost use Rattle.std.specs.Prelude.{◌≡◌, ◌+◌, ◌<◌, ◌≤◌, length, take};
 ghost use Rattle.rules.specs.Ordered.{self, rank, Rising};
 ghost use Rattle.ordered.specs.Part.{Inserted, Replaced, Removed, IsFound, IsNearest, IsInserted, IsRemoved};

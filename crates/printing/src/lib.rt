@@ -1,4 +1,6 @@
 // A map in the lent result lists, printed as its lines; a refusal's line.
+#![tactic(auto)]
+
 mod line;
 
 ghost use Rattle.std.specs.Prelude.{◌≡◌, List, ◌+◌, ◌*◌, ◌<◌, ◌≤◌, length, drop};

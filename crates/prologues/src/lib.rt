@@ -1,4 +1,6 @@
 // A function's prologue and epilogue, as the walk meets them (FunctionSlices::check_prologue, check_epilogue).
+#![tactic(auto)]
+
 ghost use Rattle.std.specs.Prelude.{◌≡◌, List, ℕ, ◌-◌, ◌*◌, ◌/◌, ◌<◌, ◌≤◌, take, drop};
 ghost use Rattle.rules.specs.Choice.{any};
 ghost use Rattle.rules.specs.Words.{is_function_terminator};

@@ -14,6 +14,8 @@
 // Printed are after m and c, for the records and then for the core: the number, 1 for yes or 0, the count, and a sum over all rows;
 // after p and o: the address that was popped or 0, 1 for yes or 0, the count, and a sum over all addresses. The last line has how many
 // operations the two disagreed about.
+#![tactic(auto)]
+
 ghost use Rattle.std.specs.Prelude.{◌≡◌};
 ghost use Rattle.records_blocks.specs.Records.{mark_records, cut_records, list_of, IsDone};
 ghost use Rattle.records_pending.specs.Record.{IsPushed, IsPopped};

@@ -1,4 +1,6 @@
 // A table of blocks as a lent slice of records, marked and cut where it lies.
+#![tactic(auto)]
+
 ghost use Rattle.std.specs.Prelude.{◌≡◌, true, false, ◌+◌, ◌<◌, ◌≤◌, min, length};
 ghost use Rattle.records_blocks.specs.Sweep.{checked, moved, turned, after, swept};
 ghost use Rattle.records_blocks.specs.Plan.{looking, changing, still, longer, opening, placed, planned};

@@ -1,4 +1,6 @@
 // The pending addresses as a record that is lent, and changed where it lies.
+#![tactic(auto)]
+
 ghost use Rattle.std.specs.Prelude.{◌≡◌, ◌+◌, ◌<◌, length, drop};
 ghost use Rattle.rules.specs.Step.{insert};
 ghost use Rattle.executor.specs.Pending.{stack};

@@ -2,6 +2,8 @@
 //
 // A line `=` ends an image. What stands behind the last such line is an image too if it is not empty. An image of 1,048,576 bytes or more
 // is refused by R 01, as `fmap` refuses it.
+#![tactic(auto)]
+
 mod cutting;
 
 ghost use Rattle.std.specs.Prelude.{◌≡◌, ◌-◌, ◌<◌, ◌≤◌, length, take, drop};

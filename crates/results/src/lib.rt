@@ -1,4 +1,6 @@
 // The map put into the lent result lists: a row of ten numbers for each entry, the numbers of the functions' lists, and zeros.
+#![tactic(auto)]
+
 ghost use Rattle.std.specs.Prelude.{◌≡◌, List, ◌∷◌, ◌+◌, ◌*◌, ◌≤◌, ◌<◌, length, take, drop, get_or};
 ghost use Rattle.rules.specs.Known.{Entry};
 ghost use Rattle.known.specs.Table.{ENTRIES, AT_ENDS};

@@ -1,4 +1,6 @@
 // Runs of elements within a lent slice: moved, copied in, filled, and one run put in the place of another.
+#![tactic(auto)]
+
 ghost use Rattle.std.specs.Prelude.{◌≡◌, ◌++◌, ◌+◌, ◌-◌, ◌<◌, ◌≤◌, length, take, drop, replicate};
 ghost use Rattle.std.proofs.Math.Seq.{paste};
 ghost use Rattle.runs.specs.Runs.{Fits, spliced};

@@ -1,4 +1,6 @@
 // Possible blocks settled, the lowest first: each is the function's, or a function of its own, or stays possible.
+#![tactic(auto)]
+
 mod tail_calls;
 mod trials;
 

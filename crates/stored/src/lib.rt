@@ -1,4 +1,6 @@
 // A function's lists as numbers, one column after the other, in a lent list.
+#![tactic(auto)]
+
 ghost use Rattle.std.specs.Prelude.{◌≡◌, ◌++◌, ◌+◌, ◌-◌, ◌≤◌, length, take, drop, replicate};
 ghost use Rattle.rules.specs.OneFunction.{numbers};
 ghost use Rattle.function_slices.specs.View.{view, Fit};

@@ -1,4 +1,6 @@
 // The state of a walk: a function's lists in two lent slices with what is pending, and where the walk is.
+#![tactic(auto)]
+
 ghost use Rattle.std.specs.Prelude.{◌≡◌, [], ◌∷◌, ℕ, ◌<◌, ◌≤◌, Bool, length, take};
 ghost use Rattle.rules.specs.Choice.{ok};
 ghost use Rattle.rules.specs.Slices as lists;

@@ -15,6 +15,8 @@
 //
 // An address has nine digits, its section's before the others; `-` is none. Last comes `L`: `zero` where the lent list is zero past what
 // was stored or, after 1 to 3, `untouched` where it is as it was before; else `changed`. `=` ends an image's walks.
+#![tactic(auto)]
+
 mod walks;
 
 use lines::{Bytes, Numbers, Space};

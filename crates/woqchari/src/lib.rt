@@ -1,4 +1,6 @@
 // The library for C and Rust: what a program in another language links and calls (include/woqchari.h).
+#![tactic(auto)]
+
 pub mod one_list;
 
 ghost use Rattle.rules.specs.Run.{run};

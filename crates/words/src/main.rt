@@ -1,5 +1,7 @@
 // Reads instruction words in hexadecimal, a line each, and prints for each whether it is a branch, which registers it names, and
 // what the walk takes it for. A line that is no word prints '?'.
+#![tactic(auto)]
+
 
 // A line to be printed.
 #[derive(Drop)]
