@@ -16,7 +16,7 @@ ghost use Rattle.analysis.specs.Tables as sizes;
 
 // What reading a table came to: 0, or the number of the fault; how many entries are in the lent list, ascending without repeats;
 // and the table's size.
-#[derive(Drop)]
+#[derive(Clone, Copy)]
 pub struct Table {
     pub fault: u32,
     pub count: usize,
@@ -24,7 +24,7 @@ pub struct Table {
 }
 
 // How far a reading has come: how many entries are in the list, how many more words may be taken, and the fault, 0 for none.
-#[derive(Drop)]
+#[derive(Clone, Copy)]
 struct Reading {
     count: usize,
     room: usize,

@@ -217,7 +217,7 @@ fn walk_and_passes(
 }
 
 // A function's lists, and whether there is a function.
-#[derive(Drop)]
+#[derive(Clone, Copy)]
 pub struct Analyzed {
     pub small: function_slices::Small,
     pub found: bool,

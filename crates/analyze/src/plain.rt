@@ -245,7 +245,7 @@ fn how_many(
 }
 
 // Which code word lies at an address, and how many are behind it; none where the address lies outside, or where no stretch is looked for.
-#[derive(Drop)]
+#[derive(Clone, Copy)]
 struct Spot {
     index: usize,
     room: usize,

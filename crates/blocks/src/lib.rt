@@ -8,7 +8,7 @@ ghost use Rattle.rules.specs.Blocks.{last_end, apart, first_disconnected_block, 
 ghost use Rattle.blocks.specs.Table.{rows, Table, Room, Looked, Reached, Holds, IsStored, IsAdded};
 
 // Whether an address became the start of a new open block, or the table is full.
-#[derive(Drop)]
+#[derive(Clone, Copy)]
 pub enum Added {
     Yes,
     No,
@@ -16,21 +16,21 @@ pub enum Added {
 }
 
 // How many blocks the table has after a mark, and what the mark came to.
-#[derive(Drop)]
+#[derive(Clone, Copy)]
 pub struct Step {
     pub count: usize,
     pub added: Added,
 }
 
 // How many blocks the table has after a block was put in, or that it is full.
-#[derive(Drop)]
+#[derive(Clone, Copy)]
 pub struct Stored {
     pub count: usize,
     pub full: bool,
 }
 
 // A block by value; 0 0 for none.
-#[derive(Drop)]
+#[derive(Clone, Copy)]
 pub struct BlockRange {
     pub start: u64,
     pub end: u64,

@@ -8,7 +8,7 @@ ghost use Rattle.known.specs.Table.{Kept, Knows};
 ghost use Rattle.callback.specs.Around.{IsCodeOf};
 
 // What stays as it is during a walk: the function's start and end (0: not known), how many functions are known, the code section.
-#[derive(Drop)]
+#[derive(Clone, Copy)]
 pub struct Around {
     pub start: u64,
     pub end: u64,

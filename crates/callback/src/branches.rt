@@ -16,7 +16,7 @@ use crate::around::{Around, is_known_function, known_function};
 use function_slices::places;
 
 // The walk after a branch, and where it goes on, if it does.
-#[derive(Drop)]
+#[derive(Clone, Copy)]
 pub struct Branched {
     pub walk: walk::Walk,
     pub on: bool,

@@ -94,7 +94,7 @@ fn is_plain(word: u32) -> bool
 }
 
 // What is noted of a word before it does what it does: the counts, without the fault of its sequence tests, and that fault, 0 for none.
-#[derive(Drop)]
+#[derive(Clone, Copy)]
 struct Noted {
     small: function_slices::Small,
     fault: u32,

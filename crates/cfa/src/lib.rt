@@ -27,7 +27,7 @@ use cfa_entries::adding::Entries;
 use function_slices::places;
 
 // 0, or why there is no map; how many entries it has, and how many numbers their lists have.
-#[derive(Drop)]
+#[derive(Clone, Copy)]
 pub struct Map {
     pub number: u32,
     pub entries: usize,

@@ -11,7 +11,7 @@ ghost use Rattle.function_slices.specs.Places.{AT_REFERENCES, KEYS};
 use function_slices::places;
 
 // How many entries there are, and the fault, 0 for none.
-#[derive(Drop)]
+#[derive(Clone, Copy)]
 pub struct Entries {
     pub count: usize,
     pub fault: u32,

@@ -53,7 +53,7 @@ fn new_between(bytes: &[u8], skips: &[u32], code: obj::sections::Code, end: u64,
 }
 
 // A new entry, 0 for none; or the fault, 0 for none.
-#[derive(Drop)]
+#[derive(Clone, Copy)]
 pub struct Found {
     pub key: u64,
     pub fault: u32,

@@ -41,7 +41,7 @@ fn put_key(keys: &mut [u64], m: usize, key: u64) -> usize
 }
 
 // How many new entries there are, and the fault, 0 for none.
-#[derive(Drop)]
+#[derive(Clone, Copy)]
 pub struct News {
     pub count: usize,
     pub fault: u32,
@@ -113,7 +113,7 @@ fn add_entries(
 }
 
 // How many entries there are, whether any is new, and the fault, 0 for none.
-#[derive(Drop)]
+#[derive(Clone, Copy)]
 pub struct Detected {
     pub count: usize,
     pub changed: bool,

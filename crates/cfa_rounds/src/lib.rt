@@ -25,7 +25,7 @@ use function_slices::places;
 // A run between two turns: how many entries there are, how many of those known beforehand were walked, what comes next, and the fault that
 // it met, 0 for none. Stages: 0 the first entry that is not analyzed is walked, or where there is none, entries are finalized; 1 new ones
 // are searched for; 2 entries are finalized, their possible blocks taken for their own; 3 nothing is left to be done.
-#[derive(Drop)]
+#[derive(Clone, Copy)]
 pub struct Run {
     pub count: usize,
     pub at: usize,

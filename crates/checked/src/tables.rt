@@ -7,7 +7,7 @@ ghost use Rattle.analysis.specs.Tables.{Passed};
 use lines::{Bytes, Numbers, State};
 
 // From where to where a table without a size may lead.
-#[derive(Drop)]
+#[derive(Clone, Copy)]
 struct Bounds {
     first: u64,
     past: u64,

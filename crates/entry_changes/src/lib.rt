@@ -14,7 +14,7 @@ ghost use Rattle.entries.specs.Table.{flag, flags, row, Holds, Good, Told, capac
 ghost use Rattle.entry_changes.specs.Changed.{KnownAre, IsAdded, IsSpan, fitted, analyzed_entry, marked, end_set};
 
 // How many entries there are after a change, where the entry is, and the fault that stopped it; 0 for none.
-#[derive(Drop)]
+#[derive(Clone, Copy)]
 pub struct Added {
     pub count: usize,
     pub at: usize,
@@ -97,7 +97,7 @@ pub fn add_entry(
 }
 
 // Where the numbers of an entry begin and end, and where all the numbers end.
-#[derive(Drop)]
+#[derive(Clone, Copy)]
 pub struct Span {
     pub at: usize,
     pub until: usize,

@@ -59,7 +59,7 @@ fn insert(p: &mut [u64], count: usize, addr: u64)
 }
 
 // How many addresses are pending after a push; the fault is 0 while there is none.
-#[derive(Drop)]
+#[derive(Clone, Copy)]
 pub struct Pushed {
     pub count: usize,
     pub fault: u32,
@@ -83,7 +83,7 @@ pub fn push(keys: &mut [u64], count: usize, addr: u64) -> Pushed
 }
 
 // The highest pending address, and how many are left.
-#[derive(Drop)]
+#[derive(Clone, Copy)]
 pub struct Popped {
     pub addr: u64,
     pub count: usize,

@@ -14,7 +14,7 @@ ghost use Rattle.function_slices.specs.Places.{KEYS, VALUES};
 pub mod places;
 
 // How many elements each table has, and what is no table. The fault is 0 while there is none.
-#[derive(Drop)]
+#[derive(Clone, Copy)]
 pub struct Small {
     pub blocks: usize,
     pub branches: usize,
@@ -31,7 +31,7 @@ pub struct Small {
 }
 
 // The lists after a mark, and whether it opened a block.
-#[derive(Drop)]
+#[derive(Clone, Copy)]
 pub struct Marked {
     pub small: Small,
     pub new: bool,

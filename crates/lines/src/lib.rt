@@ -45,7 +45,7 @@ pub type Bytes = [u8; 300000];
 pub type Space = [u8; 4096];
 
 // What was read of an image. The lists of numbers lie one after the other in one array: list i from `from[i]` up to `to[i]`.
-#[derive(Drop)]
+#[derive(Clone, Copy)]
 pub struct State {
     place: u32,
     // the line's list, and where the line's numbers begin in its array

@@ -102,7 +102,7 @@ fn is_markable(ss: &[u64], es: &[u64], count: usize, addr: u64) -> bool
 }
 
 // What a mark came to: 0, or 3 or 4 where nothing was changed; how many blocks there are; whether a new open block starts there.
-#[derive(Drop)]
+#[derive(Clone, Copy)]
 pub struct Marking {
     pub number: u32,
     pub count: usize,

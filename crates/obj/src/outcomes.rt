@@ -12,7 +12,7 @@ pub use obj_rows::outcomes::Row;
 use obj_rows::outcomes::{are_outcomes, row_at};
 
 // Where a branch goes. One that goes nowhere is none.
-#[derive(Drop)]
+#[derive(Clone, Copy)]
 pub enum To {
     Nowhere,
     Address(u32),
@@ -20,14 +20,14 @@ pub enum To {
     Elsewhere,
 }
 
-#[derive(Drop)]
+#[derive(Clone, Copy)]
 pub struct Branch {
     pub link: bool,
     pub to: To,
 }
 
 // What a code word does. A list has up to two branches: those that go somewhere, in order.
-#[derive(Drop)]
+#[derive(Clone, Copy)]
 pub enum Outcome {
     GoOn,
     Illegal,
@@ -39,7 +39,7 @@ pub enum Outcome {
 }
 
 // An outcome, and whether the link register holds 0x43300000.
-#[derive(Drop)]
+#[derive(Clone, Copy)]
 pub struct Told {
     pub outcome: Outcome,
     pub mark: bool,

@@ -9,7 +9,7 @@ ghost use Rattle.obj.specs.Sections.{Few, IsCode, IsPart, InBytes};
 pub use obj_image::sections::{Section, check_image, contains, locate, section_at, wide};
 
 // The code section: its number, counted from 1, and where its bytes begin.
-#[derive(Drop)]
+#[derive(Clone, Copy)]
 pub struct Code {
     pub number: u64,
     pub base: u32,
@@ -48,7 +48,7 @@ pub fn code_section(sections: &[u32]) -> Code
 }
 
 // A section, and where its bytes begin.
-#[derive(Drop)]
+#[derive(Clone, Copy)]
 pub struct Part {
     pub kind: u32,
     pub base: u32,

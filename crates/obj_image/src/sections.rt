@@ -6,7 +6,7 @@ ghost use Rattle.obj_image.specs.Lent.{Lent, rows, section_row, given, image};
 ghost use Rattle.obj_image.specs.Sections.{row_of, part_of, section_holds, Few};
 
 // A section by value.
-#[derive(Drop)]
+#[derive(Clone, Copy)]
 pub struct Section {
     pub kind: u32,
     pub base: u32,

@@ -8,7 +8,7 @@ ghost use Rattle.obj_rows.specs.Outcomes.{row_of};
 use obj_image::sections::locate;
 
 // What a code word does, as a row has it.
-#[derive(Drop)]
+#[derive(Clone, Copy)]
 pub struct Row {
     pub kind: u32,
     pub mark: u32,

@@ -7,7 +7,7 @@ ghost use Rattle.obj_image.specs.Lent.{Lent, rows, skip_row, image, seen};
 ghost use Rattle.obj_rows.specs.Skips.{range_of, Ascending, firsts, IsSkipped};
 
 // A range of addresses, from its first to just below the second.
-#[derive(Drop)]
+#[derive(Clone, Copy)]
 pub struct Range {
     pub first: u32,
     pub past: u32,

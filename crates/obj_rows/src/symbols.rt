@@ -10,7 +10,7 @@ ghost use Rattle.obj_rows.specs.Symbols.{symbol_of, addresses, keys, KeysAscend}
 use obj_image::sections::locate;
 
 // A symbol by value.
-#[derive(Drop)]
+#[derive(Clone, Copy)]
 pub struct Symbol {
     pub address: u32,
     pub size: u32,

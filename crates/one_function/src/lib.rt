@@ -26,7 +26,7 @@ use function_slices::places;
 
 // 0, or why there is no map of it; whether there is a function; how many elements each list has; and what is no list. A block's
 // start counts once, a way on once for each target.
-#[derive(Drop)]
+#[derive(Clone, Copy)]
 pub struct Function {
     pub number: u32,
     pub found: bool,

@@ -60,15 +60,19 @@ inserts (suc i) X Y A f x y (w ∷ xs) [] e = absurd (omega arith)
 inserts (suc i) X Y A f x y (w ∷ xs) (z ∷ ys) e = ap (λ (r : List A). f w z ∷ r) (inserts i X Y A f x y xs ys (suc_inj e))
 
 pub replaces : (i : ℕ) → Rowwise (replacing i)
-replaces i X Y A f x y [] ys e = refl
-replaces i X Y A f x y (w ∷ xs) [] e = absurd (omega arith)
+replaces zero X Y A f x y [] ys e = refl
+replaces zero X Y A f x y (w ∷ xs) [] e = absurd (omega arith)
 replaces zero X Y A f x y (w ∷ xs) (z ∷ ys) e = refl
+replaces (suc i) X Y A f x y [] ys e = refl
+replaces (suc i) X Y A f x y (w ∷ xs) [] e = absurd (omega arith)
 replaces (suc i) X Y A f x y (w ∷ xs) (z ∷ ys) e = ap (λ (r : List A). f w z ∷ r) (replaces i X Y A f x y xs ys (suc_inj e))
 
 pub removes : (i : ℕ) → Rowwise (removing i)
-removes i X Y A f x y [] ys e = refl
-removes i X Y A f x y (w ∷ xs) [] e = absurd (omega arith)
+removes zero X Y A f x y [] ys e = refl
+removes zero X Y A f x y (w ∷ xs) [] e = absurd (omega arith)
 removes zero X Y A f x y (w ∷ xs) (z ∷ ys) e = refl
+removes (suc i) X Y A f x y [] ys e = refl
+removes (suc i) X Y A f x y (w ∷ xs) [] e = absurd (omega arith)
 removes (suc i) X Y A f x y (w ∷ xs) (z ∷ ys) e = ap (λ (r : List A). f w z ∷ r) (removes i X Y A f x y xs ys (suc_inj e))
 
 -- three columns are two, of which the second is the other two joined

@@ -24,7 +24,7 @@ pub fn rank_in(xs: &[u64], count: usize, key: u64) -> usize
 }
 
 // The place of a key, and whether it is there.
-#[derive(Drop)]
+#[derive(Clone, Copy)]
 pub struct Found {
     pub at: usize,
     pub hit: bool,
@@ -46,7 +46,7 @@ pub fn find(xs: &[u64], count: usize, key: u64) -> Found
 }
 
 // Whether an element is below a key, and the index of the last that is; 0 where none is.
-#[derive(Drop)]
+#[derive(Clone, Copy)]
 pub struct Nearest {
     pub some: bool,
     pub at: usize,
@@ -105,7 +105,7 @@ pub fn remove_at(xs: &mut [u64], count: usize, i: usize) -> usize
 }
 
 // How many elements a set has after a key was put in, or that it is full.
-#[derive(Drop)]
+#[derive(Clone, Copy)]
 pub struct Insertion {
     pub count: usize,
     pub full: bool,

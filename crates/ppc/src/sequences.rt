@@ -66,7 +66,7 @@ fn scan(bytes: &[u8], from: usize, second: u8) -> bool
 }
 
 // The word at an address of a section that starts at base, and where the words after it lie; none outside the section.
-#[derive(Drop)]
+#[derive(Clone, Copy)]
 struct First {
     some: bool,
     word: u32,
@@ -99,7 +99,7 @@ fn first_word(bytes: &[u8], base: u32, addr: u32) -> First
 }
 
 // Three sequences, tried in this order: whether their first word is there, and the numbers of their partners' tests.
-#[derive(Drop)]
+#[derive(Clone, Copy)]
 struct Pairs {
     first: bool,
     partner: u8,

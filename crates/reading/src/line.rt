@@ -7,7 +7,7 @@ ghost use Rattle.reading.specs.Struct.{allowed, of_digits, frame_of};
 
 // What a line says: its kind and up to three numbers, in the line's order; 0 where there is none. The kind is the number that the
 // line begins with, 10 for a word with an outcome, and 0 for what is no frame.
-#[derive(Drop)]
+#[derive(Clone, Copy)]
 pub struct Frame {
     pub kind: u32,
     pub first: u32,

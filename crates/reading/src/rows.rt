@@ -3,7 +3,7 @@ ghost use Rattle.std.specs.Prelude.{◌+◌, ◌≤◌, length, take};
 ghost use Rattle.reading.specs.Rows.{Put, Added};
 
 // How many numbers a list has, and whether there was room.
-#[derive(Drop)]
+#[derive(Clone, Copy)]
 pub struct Count {
     pub ok: bool,
     pub count: usize,

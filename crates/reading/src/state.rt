@@ -1,7 +1,7 @@
 // How far the reading of frames has come.
 
 // Whether every line so far was a frame, and how many numbers each list has.
-#[derive(Drop)]
+#[derive(Clone, Copy)]
 pub struct Reading {
     pub ok: bool,
     pub sections: usize,

@@ -26,14 +26,14 @@ use records_blocks::{Block, Done};
 use records_pending::{Pending, Popped};
 
 // Pending addresses after a push.
-#[derive(Drop)]
+#[derive(Clone, Copy)]
 pub struct Pushed {
     pub list: Pending,
     pub done: bool,
 }
 
 // Pending addresses after a pop.
-#[derive(Drop)]
+#[derive(Clone, Copy)]
 pub struct Took {
     pub list: Pending,
     pub top: Popped,
@@ -362,7 +362,7 @@ fn count_set(table: Tables, count: usize) -> Tables {
 // ---- the list
 
 // An answer: whether there is one, and an address.
-#[derive(Drop)]
+#[derive(Clone, Copy)]
 struct Told {
     yes: bool,
     addr: u64,
@@ -501,7 +501,7 @@ fn pending_set(lists: Lists, count: usize) -> Lists {
 // ---- the input
 
 // A line that is read: its letter, and up to two numbers.
-#[derive(Drop)]
+#[derive(Clone, Copy)]
 struct Line {
     letter: u8,
     first: u64,
@@ -588,7 +588,7 @@ fn more(l: Line, b: u8) -> Line {
 }
 
 // Both, and the line that is being read.
-#[derive(Drop)]
+#[derive(Clone, Copy)]
 struct Reading {
     tables: Tables,
     lists: Lists,

@@ -10,14 +10,14 @@ use marks::is_block;
 
 // A block, from its start up to its end; the end of an open one is 0.
 #[repr(C)]
-#[derive(Drop)]
+#[derive(Clone, Copy)]
 pub struct Block {
     pub start: u64,
     pub end: u64,
 }
 
 // Whether all blocks so far may stand in a table, and what the next start must then reach.
-#[derive(Drop)]
+#[derive(Clone, Copy)]
 struct Check {
     least: u64,
     sound: bool,
@@ -45,7 +45,7 @@ fn check_next(check: Check, b: Block) -> Check
 
 // What a sweep carries from one block to the next. Mode 0: it looks for addr. 1: it has found its place. 3: from `at` on it moves each
 // block up by one. 4: it puts `hold` at `at`.
-#[derive(Drop)]
+#[derive(Clone, Copy)]
 struct Carry {
     // what is written back
     out: Block,
@@ -143,7 +143,7 @@ fn sweep(blocks: &mut [Block], count: usize, c: Carry) -> Carry
 
 // What a mark or a cut came to: 0, or 3 or 4 where nothing was changed; how many blocks there are; whether a new open block starts there,
 // or a block was cut.
-#[derive(Drop)]
+#[derive(Clone, Copy)]
 pub struct Done {
     pub number: u32,
     pub count: usize,
@@ -151,7 +151,7 @@ pub struct Done {
 }
 
 // A sweep over the first n blocks, and what is answered after it.
-#[derive(Drop)]
+#[derive(Clone, Copy)]
 struct Plan {
     carry: Carry,
     n: usize,

@@ -28,7 +28,7 @@ fn insert(a: &mut [u64; 256], count: usize, addr: u64)
     a[k] = addr;
 }
 
-#[derive(Drop)]
+#[derive(Clone, Copy)]
 struct Added {
     count: usize,
     done: bool,
@@ -50,13 +50,13 @@ fn add(a: &mut [u64; 256], count: usize, addr: u64) -> Added
 }
 
 // The highest pending address, or none.
-#[derive(Drop)]
+#[derive(Clone, Copy)]
 pub enum Popped {
     At(u64),
     Empty,
 }
 
-#[derive(Drop)]
+#[derive(Clone, Copy)]
 struct Taken {
     count: usize,
     top: Popped,

@@ -19,7 +19,7 @@ type Text = [u8; 1114112];
 type Out = [u8; 1489000];
 
 // How many bytes of the input stand at the text's front, and whether there may be more to read.
-#[derive(Drop)]
+#[derive(Clone, Copy)]
 struct Read {
     n: usize,
     more: bool,

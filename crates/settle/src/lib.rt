@@ -18,7 +18,7 @@ ghost use Rattle.settle.specs.Settled.{settling_of, looking, IsSettling};
 use function_slices::places;
 
 // A function's lists, and from where possible blocks are looked at.
-#[derive(Drop)]
+#[derive(Clone, Copy)]
 pub struct Settling {
     pub small: function_slices::Small,
     pub current: u64,

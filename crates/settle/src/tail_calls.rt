@@ -16,7 +16,7 @@ ghost use Rattle.settle.specs.Judged.{Dropped, answer_of, Judges, trial_answer, 
 use function_slices::places;
 
 // What the tests before the trial walk say: not a tail call, one, perhaps one, or that the trial decides.
-#[derive(Drop)]
+#[derive(Clone, Copy)]
 pub enum Tested {
     Not,
     Is,
@@ -182,7 +182,7 @@ pub fn check_before(
 }
 
 // What a tail-call test answers.
-#[derive(Drop)]
+#[derive(Clone, Copy)]
 pub enum TailCall {
     Not,
     Is,
@@ -190,7 +190,7 @@ pub enum TailCall {
 }
 
 // The answer, and the function's lists: other possible blocks may be gone from them.
-#[derive(Drop)]
+#[derive(Clone, Copy)]
 pub struct Judged {
     pub small: function_slices::Small,
     pub answer: TailCall,

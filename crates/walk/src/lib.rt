@@ -16,7 +16,7 @@ pub const NOWHERE: u32 = 2;
 
 // What is no list: the counts, how many addresses are pending, whether this pass visited a new word, and the place. Before a word,
 // `at` is its address and `block` the start of its block.
-#[derive(Drop)]
+#[derive(Clone, Copy)]
 pub struct Walk {
     pub small: function_slices::Small,
     pub pending: usize,

@@ -4,14 +4,14 @@
 
 
 // A line to be printed.
-#[derive(Drop)]
+#[derive(Clone, Copy)]
 struct Out {
     bytes: [u8; 128],
     len: usize,
 }
 
 // A line that is read: the digits so far, and whether they are a word's.
-#[derive(Drop)]
+#[derive(Clone, Copy)]
 struct Line {
     value: u32,
     digits: u32,

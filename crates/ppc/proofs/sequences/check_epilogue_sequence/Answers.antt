@@ -1,0 +1,10 @@
+use Rattle.ppc.proofs.Scan.{epilogue_is, no_epilogue, first_some, first_none}
+use borrow.Author.Rules.{rules}
+use Rattle.ppc.proofs.sequences.check_epilogue_sequence.Goals as goal
+
+-- `ppc::sequences::check_epilogue_sequence` is that of `rules`: the numbers are those of its tests. Assumes nothing.
+pub returns-then-f : goal.returns-then-f
+returns-then-f c = search (rules, epilogue_is, first_some)
+
+pub returns : goal.returns
+returns c = search (rules, no_epilogue, first_none)

@@ -1,0 +1,7 @@
+use mathlib.Core.Path.{refl}
+use native.Mathlib.Omega.{arith}
+use Rattle.runs.proofs.Laws.{fill_done}
+use Rattle.runs.proofs.splice_fill.Goals as goal
+
+pub returns : goal.returns
+returns c = record { count = omega arith; whole = fill_done _ _ _ _ _ _ _ _ c.requires refl refl _ c.shift.ensures _ c.fill.ensures }
