@@ -25,4 +25,4 @@ insert_row-requires c = let a = c.args in insert_row_fits a.count a.known.now a.
 
 pub returns : goal.returns
 unfolding part
-returns c = let a = c.args in λ es h. added a.count a.known.now a.infos.now a.lists.now _ _ c.find-f.ensures es h a.room _ c.most.ensures c.if-f.false c.if-most-count.false _ _ c.insert_known.ensures c.insert_row.ensures c.infos-1.given
+returns c = let a = c.args in λ es h. added a.count a.known.now a.infos.now a.lists.now _ _ c.find-f.ensures es h a.room _ c.most.ensures c.if-f.false c.if-most-count.false _ _ c.insert_known.ensures c.insert_row.ensures c.insert_row.auto.infos

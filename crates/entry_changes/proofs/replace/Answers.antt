@@ -28,4 +28,4 @@ pub put_end-requires : goal.put_end-requires
 put_end-requires c = (c.requires.table.1, c.requires.table.0.holds.kept.few, c.requires.table.0.holds.kept.size)
 
 pub returns : goal.returns
-returns c = let a = c.args in λ es h. replaced a.count a.known.now a.infos.now a.lists.now es h a.i c.requires.table.1 _ (c.span_of-t.ensures es h) a.end a.keys.now a.values.now a.slices c.requires.fit _ c.size-m.ensures c.if-lists-kept.false _ c.put_numbers.ensures _ c.put_row.ensures c.infos-1.given _ c.put_end.ensures
+returns c = let a = c.args in λ es h. replaced a.count a.known.now a.infos.now a.lists.now es h a.i c.requires.table.1 _ (c.span_of-t.ensures es h) a.end a.keys.now a.values.now a.slices c.requires.fit _ c.size-m.ensures c.if-lists-kept.false _ c.put_numbers.ensures _ c.put_row.ensures c.put_row.auto.infos _ c.put_end.ensures
