@@ -37,7 +37,7 @@ pub loop-i-smaller : goal.loop-i-smaller
 loop-i-smaller c = omega (arith, c.loop-i-test.true)
 
 pub loop-i-preserved : goal.loop-i-preserved
-loop-i-preserved c = seek_on _ _ _ _ _ c.requires.table _ _ _ c.loop-i.invariant c.loop-i-test.true _ _ c.next_entry-after.ensures c.found_behind-f.ensures _ _ c.if-f-ne0.false c.keys-1.given c.put_key-m.ensures
+loop-i-preserved c = seek_on _ _ _ _ _ c.requires.table _ _ _ c.loop-i.invariant c.loop-i-test.true _ _ c.next_entry-after.ensures c.found_behind-f.ensures _ _ c.if-f-ne0.false c.put_key-m.auto.keys c.put_key-m.ensures
 
 pub shape_of-keys : goal.shape_of-keys
 shape_of-keys c = c.loop-i.invariant.room ∙ sym c.requires.room
