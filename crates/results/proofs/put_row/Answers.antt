@@ -18,11 +18,6 @@ copy_in-requires c = let p = c.requires in
     let l = eight_long a.infos.now a.i p.1 p.2 in
     (omega (arith, ap length e, l), simp length-set (omega (arith, p.3)))
 
-pub shape_of-rows : goal.shape_of-rows
-shape_of-rows c = let a = c.args in
-    let x : List ℕ = a.rows.now in
-    c.rows-1.given ∙ length-set (set x (a.i * 10) (get_or a.known.now a.i 0)) (a.i * 10 + 1) (get_or a.known.now (AT_ENDS + a.i) 0) ∙ length-set x (a.i * 10) (get_or a.known.now a.i 0)
-
 pub returns : goal.returns
 returns c = let p = c.requires in
     let a = c.args in
