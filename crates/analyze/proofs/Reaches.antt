@@ -45,14 +45,14 @@ module _ (b : List ℕ) (a : Around) where
     unfolding rules.skip_nops
     stays e z = run_stop (rules.at_nop e) (rules.four_on e) (λ y. e.end - y) at z
 
-    module _ (w : ℕ) (is_IsWord : (l : Lent) → l.bytes ≡ b → IsCode l a.code → check_image (given l) ≡ true → w ≡ images.word (image l) (address_of at)) where
+    module _ (w : ℕ) (is_word : (l : Lent) → l.bytes ≡ b → IsCode l a.code → check_image (given l) ≡ true → w ≡ images.word (image l) (address_of at)) where
       here : (s f x n : List ℕ) (e : steps.Around) → Of s b f x n a e → w ≡ images.word e.image (address_of at)
-      here s f x n e o = word_of s b f x n a e o at w is_IsWord
+      here s f x n e o = word_of s b f x n a e o at w is_word
 
       -- a `nop` lies in code
       pub nop_low : Walks b a → w ≡ 0x6000_0000 → address_of at < 0xF000_0000
       unfolding images.word
-      nop_low u q = by (images.contains (images.code_section (image l)) (address_of at)) refl (sym q ∙ is_IsWord l u.of.bytes u.of.code (image_passed _ _ _ _ _ _ _ u.of))
+      nop_low u q = by (images.contains (images.code_section (image l)) (address_of at)) refl (sym q ∙ is_word l u.of.bytes u.of.code (image_passed _ _ _ _ _ _ _ u.of))
         where
           l : Lent
           l = u.of.lent
