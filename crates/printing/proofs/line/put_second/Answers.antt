@@ -22,4 +22,4 @@ pub returns-in-74 : goal.returns-in-74
 returns-in-74 c = rw (of_table _ _ c.in-74.is) c.put_number.ensures
 
 pub returns-in_default : goal.returns-in_default
-returns-in_default c = let n = c.in_default.in_default-own.rest in rw (of_none _ _ n.0.0.1 n.0.1 n.1) (printed_none _ _ (omega (arith, c.requires.fits)))
+returns-in_default c = rw (of_none c.args.tag c.args.b (omega arith) (omega arith) (omega arith)) (printed_none _ _ (omega (arith, c.requires.fits)))
