@@ -286,10 +286,8 @@ module _ (im : Image) (first past : ℕ) (w : List ℕ) (at : ℕ) (s : Reading)
   unsized_stops v k e is h = table (ap (unsized_entries im first past s.room) e ∙ outside im first past v k s xs going.live is h (words_in (drop (at + 4) w)))
 
 -- a test by what its opposite came to
-pub inside_true : (b : Bool) {c : Bool} → c ≡ b → not c ≡ false → b ≡ true
-inside_true true e h = refl
-inside_true false e h = absurd (false≢true (sym h ∙ ap not e))
+pub inside_true : (b : Bool) {c : Bool} → c ≡ b → c ≡ true → b ≡ true
+inside_true b e h = sym e ∙ h
 
-pub inside_false : (b : Bool) {c : Bool} → c ≡ b → not c ≡ true → b ≡ false
-inside_false true e h = absurd (false≢true (sym (ap not e) ∙ h))
-inside_false false e h = refl
+pub inside_false : (b : Bool) {c : Bool} → c ≡ b → c ≡ false → b ≡ false
+inside_false b e h = sym e ∙ h
