@@ -1,4 +1,4 @@
-// The library for C and Rust: what a program in another language links and calls (include/woqchari.h).
+// The library: an image in, its map out. crates/woqchari_c has the same functions for programs in C and Rust (include/woqchari.h).
 #![tactic(auto)]
 
 pub mod one_list;
@@ -8,8 +8,7 @@ ghost use Rattle.obj.specs.Lent.{lent, given, image};
 ghost use Rattle.cfa.specs.Maps.{room_of, Told, Counted};
 
 // cfa::detect_functions: the number is the result, and how many entries and numbers there are is written through.
-#[unsafe(no_mangle)]
-pub extern "C" fn woqchari_detect_functions(
+pub fn woqchari_detect_functions(
     sections: &[u32],
     bytes: &[u8],
     outcomes: &[u32],

@@ -7,16 +7,14 @@ ghost use Rattle.image.specs.Lists.{lent_of, image_at};
 ghost use Rattle.cfa.specs.Maps.{room_of, Told, Counted};
 
 // image::check: 1, 2 or 3 by the first check that fails; 0 where none does.
-#[unsafe(no_mangle)]
-pub extern "C" fn woqchari_check_image(image: &[u32], bytes: &[u8]) -> u32
+pub fn woqchari_check_image(image: &[u32], bytes: &[u8]) -> u32
     ensures { result ≡ check (given (lent_of image.now bytes.now)) }
 {
     image::check(image, bytes)
 }
 
 // woqchari_detect_functions of an image that is lent as one list with a header.
-#[unsafe(no_mangle)]
-pub extern "C" fn woqchari_detect_in_image(
+pub fn woqchari_detect_in_image(
     image: &[u32],
     bytes: &[u8],
     rows: &mut [u64],
