@@ -1,7 +1,7 @@
 -- Entries added for keys that were found, one after the other.
 use Prim.Native.Nat.{ℕ, ◌+◌, ◌≤◌, ◌<◌}
 use mathlib.Core.Path.{◌≡◌, refl}
-use mathlib.Core.List.{List, [], ◌∷◌}
+use mathlib.Core.List.{List, []}
 use lib.ListN.{length, take, get_or}
 use Rattle.rules.specs.Choice.{Answer}
 use Rattle.rules.specs.Loop.{result, if_fails}

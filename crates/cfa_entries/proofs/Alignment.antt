@@ -1,12 +1,12 @@
 -- Skipped and zero words.
 use Prim.Native.Nat.{ℕ, ◌+◌, ◌-◌, ◌≤◌, ◌<◌}
 use mathlib.Core.Path.{◌≡◌, refl, sym, ap, ◌∙◌}
-use mathlib.Core.Bool.{Bool, true, false, ◌&&◌, false≢true}
+use mathlib.Core.Bool.{Bool, true, false, false≢true}
 use mathlib.Core.List.{List, []}
 use native.Mathlib.Omega.{arith}
-use lib.Dec.{leb, eqb}
+use lib.Dec.{eqb}
 use borrow.Author.Tests.{le-leb, lt-leb}
-use Rattle.rules.specs.Choice.{if, if_true, if_false}
+use Rattle.rules.specs.Choice.{if_true, if_false}
 use Rattle.rules.specs.Loop.{run, run_step, run_stop}
 use Rattle.rules.specs.Image as images
 use Rattle.rules.specs.Check.{check_image}

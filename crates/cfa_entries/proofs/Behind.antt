@@ -1,20 +1,17 @@
 -- A new entry behind an end, or none.
 use Prim.Native.Nat.{ℕ, ◌+◌, ◌*◌, ◌%◌, ◌≤◌, ◌<◌}
 use mathlib.Core.Path.{◌≡◌, refl, sym, ap, ◌∙◌}
-use mathlib.Core.Bool.{Bool, true, false, ◌&&◌, not}
+use mathlib.Core.Bool.{true, false, ◌&&◌, not}
 use mathlib.Core.List.{List, [], ◌∷◌}
 use native.Mathlib.Omega.{arith}
 use lib.Dec.{ltb, eqb}
-use borrow.Author.Tests.{eq-eqb, ne_eqb, lt-ltb, le-ltb}
-use Rattle.rules.specs.Choice.{if, if_true, if_false, Answer, ok, fault}
-use Rattle.rules.specs.Address.{key}
-use Rattle.rules.specs.Image as images
+use borrow.Author.Tests.{ne_eqb, lt-ltb, le-ltb}
+use Rattle.rules.specs.Choice.{if, ok}
 use Rattle.rules.specs.Known.{Entry}
 use Rattle.rules.specs.Map as rules
 use Rattle.obj.specs.Lent.{Lent, image}
 use Rattle.obj.specs.declared.sections.Code.{Code}
 use Rattle.cfa_entries.specs.Looks.{Looks, some_key, found_of}
-use Rattle.cfa_entries.specs.declared.gaps.Found.{Found}
 
 module _ (bs sk : List ℕ) (c : Code) (l : Lent) (cap : rules.Capacity) (q : Looks bs sk c l) where
   module _ (end after a : ℕ) (is_a : a ≡ rules.skip_alignment (image l) cap (end % 0x1_0000_0000) (after % 0x1_0000_0000)) where

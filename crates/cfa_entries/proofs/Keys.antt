@@ -1,15 +1,13 @@
 -- Entries added for keys, one after the other.
-use Prim.Native.Nat.{ℕ, zero, suc, ◌+◌, ◌-◌, ◌*◌, ◌/◌, ◌%◌, ◌≤◌, ◌<◌}
+use Prim.Native.Nat.{ℕ, ◌+◌, ◌/◌, ◌%◌, ◌≤◌, ◌<◌}
 use mathlib.Core.Path.{◌≡◌, refl, sym, ap, ◌∙◌}
 use mathlib.Core.Bool.{Bool, true, false, ◌&&◌, not}
 use mathlib.Core.List.{List, [], ◌∷◌}
-use native.Mathlib.Omega.{arith}
 use lib.Dec.{eqb}
-use lib.ListN.{length, take, drop, get_or}
-use lib.Seq.{drop-cons, get_or-take, length-take-le}
+use lib.ListN.{length, take, get_or}
 use borrow.Author.Tests.{eq-eqb, ne_eqb}
-use Rattle.rules.specs.Choice.{if, if_true, if_false, Answer, ok, fault, ◌>>=◌}
-use Rattle.rules.specs.Loop.{result, number, bind_fails, if_fails}
+use Rattle.rules.specs.Choice.{if_true, if_false, Answer, ok}
+use Rattle.rules.specs.Loop.{result, bind_fails, if_fails}
 use Rattle.rules.specs.Address.{address_of, section_of}
 use Rattle.rules.specs.Image as images
 use Rattle.rules.specs.Known.{Entry}
@@ -19,7 +17,7 @@ use Rattle.obj.specs.Lent.{Lent, image}
 use Rattle.obj.specs.declared.sections.Code.{Code}
 use Rattle.entry_changes.specs.Changed.{IsAdded}
 use Rattle.entry_changes.specs.declared.Added.{Added}
-use Rattle.entries.specs.Table.{Holds, Good, Told, capacity}
+use Rattle.entries.specs.Table.{Holds, Good, capacity}
 use Rattle.cfa_entries.specs.Adding.{Looks, Looking, Entered}
 use Rattle.cfa_entries.proofs.Each.{Each, each_first, each_ends, each_stops, each_on}
 

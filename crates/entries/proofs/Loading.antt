@@ -1,7 +1,7 @@
 -- A function's lists read back from its numbers.
-use mathlib.Core.Path.{◌≡◌, refl, sym, ap, ap₂, ◌∙◌}
-use mathlib.Core.List.{List, ◌++◌, map}
-use Prim.Native.Nat.{ℕ, ◌+◌, ◌≤◌}
+use mathlib.Core.Path.{◌≡◌, refl, sym, ap, ◌∙◌}
+use mathlib.Core.List.{List, map}
+use Prim.Native.Nat.{ℕ, ◌≤◌}
 use native.Mathlib.Omega.{arith}
 use lib.ListN.{length, take, drop, length-map}
 use lib.Seq.{take_all, take-take}
@@ -9,7 +9,7 @@ use Rattle.rules.specs.Choice.{ok}
 use Rattle.rules.specs.Blocks.{start_of}
 use Rattle.rules.specs.Slices.{Slices, own_address}
 use Rattle.rules.specs.OneFunction.{end_of, size_of, way_froms, way_tos, numbers}
-use Rattle.function_slices.specs.View.{part, Parts, parts, lists_of, view, Held, Fit, Are, Is}
+use Rattle.function_slices.specs.View.{part, Parts, parts, lists_of, view, Held, Is}
 use Rattle.function_slices.specs.declared.Small.{Small}
 use Rattle.stored.proofs.Numbers.{froms_count, tos_count}
 use Rattle.entries.specs.Columns.{small_of, columns_of, Right, numbers_long, cut, Limits, Keys, Values}

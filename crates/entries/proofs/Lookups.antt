@@ -13,20 +13,17 @@ use lib.Seq.{get_or-drop, get_or-take, drop-cons}
 use borrow.Author.Tests.{eq-eqb, ne_eqb}
 use Rattle.rules.specs.Choice.{if, if_true, if_false, any}
 use Rattle.rules.specs.Ordered.{self, rank, has, upper, Rising}
-use Rattle.rules.proofs.Ordered.{has_below}
 use Rattle.rules.specs.Blocks.{Block, block, start_of}
 use Rattle.rules.specs.Slices.{Slices}
 use Rattle.rules.specs.Known.{Entry, entry_of, new_entry, is_some, is_unfinalized, end_of_entry}
 use Rattle.rules.specs.Map.{first_unbounded_function}
 use Rattle.ordered.specs.Part.{IsFound}
 use Rattle.ordered.specs.declared.Found.{Found}
-use Rattle.blocks.specs.Table.{rows}
 use Rattle.blocks.proofs.Rows as blocks
 use Rattle.function_slices.specs.View.{part}
-use Rattle.known.specs.Table.{known_rows, as_block, Kept, Knows, ENTRIES, AT_ENDS}
+use Rattle.known.specs.Table.{as_block, Kept, Knows, ENTRIES, AT_ENDS}
 use Rattle.known.proofs.Entries.{table, has_entry}
-use Rattle.entries.specs.Columns.{small_of}
-use Rattle.entries.specs.Table.{flag, flags, row_of, info_row, odd, Holds, Good}
+use Rattle.entries.specs.Table.{flag, row_of, info_row, odd, Holds}
 use Rattle.entries.proofs.Rows.{odd_flag, odd_last, half_flag, count_is, row_at, behind}
 
 -- ---- a row

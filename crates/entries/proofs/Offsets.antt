@@ -17,7 +17,7 @@ use Rattle.function_slices.specs.declared.Small.{Small}
 use Rattle.entries.specs.Columns.{small_of, numbers_long, Limits, Keys, Values}
 use Rattle.entries.specs.Table.{odd, small_from, row_size, sizes, Holds, Good}
 use Rattle.entries.proofs.Loading.{lists_loaded}
-use Rattle.entries.proofs.Rows.{row_within, offset_is, size_is, numbers_within, numbers_at, limits_at, right_here, small_here, numbers_here}
+use Rattle.entries.proofs.Rows.{row_within, numbers_within, limits_at, right_here, small_here, numbers_here}
 use Rattle.function_slices.specs.Places.{KEYS, VALUES}
 
 -- ---- a row read

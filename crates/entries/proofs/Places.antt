@@ -1,11 +1,11 @@
 -- Columns copied out of a function's numbers, and where each column stands among them.
-use mathlib.Core.Path.{◌≡◌, refl, sym, ap, ap₂, ◌∙◌}
+use mathlib.Core.Path.{◌≡◌, sym, ap, ap₂, ◌∙◌}
 use mathlib.Core.List.{List, ◌++◌, append_assoc}
 use Prim.Native.Nat.{ℕ, ◌+◌, ◌≤◌}
 use native.Mathlib.Omega.{arith}
 use lib.ListN.{length, take, drop, length-append, length-drop}
-use lib.Seq.{paste, take_all, drop-drop, drop_at, take-append-le, drop-append-le, length-take-le}
-use Rattle.function_slices.specs.View.{part, Parts, parts_of}
+use lib.Seq.{paste, take_all, drop-drop, drop_at, take-append-le, drop-append-le}
+use Rattle.function_slices.specs.View.{part, parts_of}
 use Rattle.function_slices.specs.declared.Small.{Small}
 use Rattle.function_slices.proofs.Parts.{Lent, over, lent, part_length, parts_are}
 use Rattle.entries.specs.Columns.{at_froms, at_tos, at_references, at_addresses, at_sizes, at_possible, numbers_long, cut, Limits, Keys, Values}

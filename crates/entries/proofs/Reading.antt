@@ -1,11 +1,11 @@
 -- The slices tell the entries: they are read back from them, so no two lists of entries stand in the same slices.
 use mathlib.Core.Path.{◌≡◌, refl, sym, ap, ap₂, ◌∙◌}
-use mathlib.Core.Bool.{Bool, true, false}
+use mathlib.Core.Bool.{Bool}
 use mathlib.Core.List.{List, [], ◌∷◌, ◌++◌, map, append_assoc}
 use mathlib.Core.Option.{Option, none, some}
-use Prim.Native.Nat.{ℕ, ◌+◌, ◌/◌, ◌≤◌}
+use Prim.Native.Nat.{ℕ, ◌/◌}
 use native.Mathlib.Omega.{arith}
-use lib.ListN.{length, take, drop, get_or}
+use lib.ListN.{length, drop, get_or}
 use lib.Seq.{drop_at}
 use Rattle.rules.specs.Choice.{if, if_true, if_false}
 use Rattle.rules.specs.Ordered.{Rising}
@@ -16,8 +16,8 @@ use Rattle.rules.specs.OneFunction.{numbers}
 use Rattle.function_slices.specs.View.{Parts, lists_of}
 use Rattle.function_slices.specs.declared.Small.{Small}
 use Rattle.function_slices.proofs.Parts.{parts_are}
-use Rattle.known.specs.Table.{known_rows, as_block, KNOWN}
-use Rattle.entries.specs.Columns.{small_of, columns_of, Right, at_froms, at_tos, at_references, at_addresses, at_sizes, at_possible, numbers_long, cut, slices_from}
+use Rattle.known.specs.Table.{as_block, KNOWN}
+use Rattle.entries.specs.Columns.{small_of, Right, at_froms, at_tos, at_references, at_addresses, at_sizes, at_possible, numbers_long, cut, slices_from}
 use Rattle.entries.specs.Table.{row_of, info_row, numbers_in, entry_numbers, flat, odd, small_from, row_size, entry_from, entries_from, entries_of, RightIn, AllRight, Holds, INFOS}
 use Rattle.entries.proofs.Places.{left}
 use Rattle.entries.proofs.Loading.{numbers_size, numbers_cut}

@@ -1,19 +1,18 @@
 -- The rows and numbers of entries, one entry's behind the other's.
 use mathlib.Core.Path.{◌≡◌, refl, sym, ap, ap₂, ◌∙◌}
 use mathlib.Core.Bool.{Bool, true, false}
-use mathlib.Core.List.{List, [], ◌∷◌, ◌++◌, map, append_assoc}
+use mathlib.Core.List.{List, [], ◌∷◌, ◌++◌, append_assoc}
 use mathlib.Core.Option.{Option, none, some}
-use Prim.Native.Nat.{ℕ, zero, suc, ◌+◌, ◌*◌, ◌-◌, ◌/◌, ◌%◌, ◌<◌, ◌≤◌}
-use native.Mathlib.Nat.{zero-add, sub-zero}
+use Prim.Native.Nat.{ℕ, zero, suc, ◌+◌, ◌*◌, ◌/◌, ◌%◌, ◌<◌, ◌≤◌}
 use native.Mathlib.Omega.{arith}
-use lib.ListN.{length, take, drop, get_or, length-append, length-map, take-append-drop, length-take, length-drop}
-use lib.Seq.{drop_at, take_at, drop-drop, length-take-le, split_at}
+use lib.ListN.{length, take, drop, get_or, length-append, length-map, take-append-drop}
+use lib.Seq.{drop_at, take_at, length-take-le, split_at}
 use Rattle.rules.specs.Slices.{Slices}
-use Rattle.rules.specs.Known.{Entry, entry_of, new_entry}
+use Rattle.rules.specs.Known.{Entry, new_entry}
 use Rattle.rules.specs.OneFunction.{numbers}
 use Rattle.function_slices.specs.declared.Small.{Small}
 use Rattle.blocks.proofs.Rows.{length_rows}
-use Rattle.known.specs.Table.{as_block, Kept, Knows}
+use Rattle.known.specs.Table.{as_block}
 use Rattle.known.proofs.Entries.{table}
 use Rattle.entries.specs.Columns.{small_of, Right, numbers_long, Limits}
 use Rattle.entries.specs.Table.{flag, flags, row, row_of, info_row, numbers_in, entry_numbers, flat, Begins, odd, small_from, row_size, sizes, RightIn, AllRight, Holds}

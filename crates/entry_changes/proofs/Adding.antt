@@ -1,17 +1,17 @@
 -- An entry added: what each part of the slices holds then.
 use mathlib.Core.Path.{◌≡◌, refl, sym, ap, ap₂, ◌∙◌}
-use mathlib.Core.Bool.{Bool, true, false, false≢true}
-use mathlib.Core.List.{List, [], ◌∷◌, ◌++◌, map, append-nil}
+use mathlib.Core.Bool.{Bool, true, false}
+use mathlib.Core.List.{List, [], ◌∷◌, ◌++◌, map}
 use Prim.Native.Nat.{ℕ, zero, suc, min, ◌+◌, ◌-◌, ◌*◌, ◌<◌, ◌≤◌}
 use native.Mathlib.Numerals.{add-one}
 use native.Mathlib.Omega.{arith}
 use lib.Dec.{ltb, eqb, leb}
-use lib.ListN.{length, take, drop, get_or, length-map, replicate, length-append, length-drop}
+use lib.ListN.{length, take, drop, replicate, length-drop}
 use lib.Seq.{length-take-le}
-use borrow.Author.Tests.{lt-ltb, le-ltb, ltb-true, ltb-false, eqb-true, eq-eqb, le-leb, lt-leb}
-use Rattle.rules.specs.Choice.{if, if_true, if_false, by_if, Answer, ok, fault, limited}
+use borrow.Author.Tests.{le-ltb, eq-eqb, le-leb, lt-leb}
+use Rattle.rules.specs.Choice.{if, if_true, if_false, ok, fault, limited}
 use Rattle.rules.specs.Ordered.{rank, has, put, insert_at, Rising}
-use Rattle.rules.proofs.Ordered.{rank_le, put_new, put_rising, length_put_new, length_insert_at}
+use Rattle.rules.proofs.Ordered.{rank_le, put_new, put_rising, length_put_new}
 use Rattle.rules.specs.Blocks.{Block, block, start_of}
 use Rattle.rules.specs.Known.{Entry, entry_of, new_entry}
 use Rattle.rules.specs.Map.{add_entry}
@@ -21,14 +21,13 @@ use Rattle.ordered.specs.declared.Found.{Found}
 use Rattle.ordered.proofs.Columns.{rows_change, inserting, inserts}
 use Rattle.function_slices.specs.View.{part}
 use Rattle.function_slices.proofs.Parts.{Lent, over, lent, part_length}
-use Rattle.runs.specs.Runs.{Fits, spliced}
-use Rattle.known.specs.Table.{known_rows, as_block, Kept, Knows, ENTRIES, AT_ENDS, KNOWN}
-use Rattle.entries.specs.Table.{info_row, entry_numbers, flat, Begins, Holds, Good, capacity, Told, INFOS}
+use Rattle.runs.specs.Runs.{spliced}
+use Rattle.known.specs.Table.{known_rows, as_block, ENTRIES, AT_ENDS, KNOWN}
+use Rattle.entries.specs.Table.{info_row, entry_numbers, flat, Begins, Holds, Good, capacity, INFOS}
 use Rattle.entries.proofs.Rows.{rows_long, count_is}
 use Rattle.entries.proofs.Lookups as lookups
 use Rattle.entries.proofs.Reading.{entries_rise}
-use Rattle.entry_changes.specs.Changed.{KnownAre, Placed, IsAdded}
-use Rattle.entry_changes.specs.declared.Added.{Added}
+use Rattle.entry_changes.specs.Changed.{KnownAre, IsAdded}
 use Rattle.entry_changes.proofs.Splicing.{splice_begins, flat_inserted, flat_parted, right_inserted}
 
 -- ---- the two columns of known

@@ -1,11 +1,11 @@
 -- What the rules make of the entries, from what the slices hold after an entry was added.
 use mathlib.Core.Path.{◌≡◌, refl, sym, ap, ap₂, ◌∙◌}
-use mathlib.Core.Bool.{Bool, true, false, false≢true}
+use mathlib.Core.Bool.{Bool, true, false}
 use mathlib.Core.List.{List, [], ◌∷◌, ◌++◌, append_assoc}
 use mathlib.Core.Option.{Option, none, some}
-use Prim.Native.Nat.{ℕ, zero, suc, min, ◌+◌, ◌*◌, ◌%◌, ◌<◌, ◌≤◌}
+use Prim.Native.Nat.{ℕ, suc, ◌+◌, ◌*◌, ◌%◌, ◌<◌, ◌≤◌}
 use native.Mathlib.Omega.{arith}
-use lib.Dec.{ltb, leb, eqb}
+use lib.Dec.{leb}
 use lib.ListN.{length, take, drop, get_or, set, length-append, length-set}
 use native.Mathlib.Nat.{add-zero}
 use lib.Seq.{get_or-drop, get_or_at, set_at, set-get_or, length-take-le}
@@ -20,7 +20,7 @@ use Rattle.rules.specs.Map.{Capacity, add_entry, size_of, total, numbers_of, fit
 use Rattle.known.specs.Table.{known_rows}
 use Rattle.stored.proofs.Numbers.{numbers_count}
 use Rattle.entries.specs.Columns.{small_of}
-use Rattle.entries.specs.Table.{flag, flags, row_of, info_row, numbers_in, entry_numbers, flat, Begins, odd, RightIn, Holds, Good, Told, capacity}
+use Rattle.entries.specs.Table.{flag, flags, row_of, info_row, numbers_in, entry_numbers, flat, Begins, odd, Holds, Good, Told, capacity}
 use Rattle.entries.proofs.Rows.{odd_flag, rows_long, right_at, flat_at, rest, form_at, begins_of, count_is, row_at, behind}
 use Rattle.entries.proofs.Lookups.{upper_there}
 use Rattle.entry_changes.specs.Changed.{analyzed_entry, with_end, KnownAre, IsAdded, fitted, marked, end_set}

@@ -1,16 +1,16 @@
 -- Slices that begin with the entries' lists, after a run within them was replaced.
-use mathlib.Core.Path.{◌≡◌, refl, sym, ap, ap₂, ◌∙◌}
-use mathlib.Core.List.{List, [], ◌∷◌, ◌++◌, append_assoc, append-nil}
-use Prim.Native.Nat.{ℕ, zero, suc, ◌+◌, ◌-◌, ◌*◌, ◌<◌, ◌≤◌}
+use mathlib.Core.Path.{◌≡◌, sym, ap, ap₂, ◌∙◌}
+use mathlib.Core.List.{List, [], ◌∷◌, ◌++◌, append_assoc}
+use Prim.Native.Nat.{ℕ, zero, suc, ◌+◌, ◌<◌}
 use native.Mathlib.Omega.{arith}
-use lib.ListN.{length, take, drop, get_or, set, length-append, take-append-drop, replicate}
-use lib.Seq.{take_at, drop_at, slice, set_split, drop-drop}
+use lib.ListN.{length, take, drop, set, length-append, take-append-drop}
+use lib.Seq.{take_at, drop_at, slice, set_split}
 use Rattle.rules.specs.Ordered.{insert_at}
 use Rattle.rules.proofs.Ordered.{insert_at_split}
-use Rattle.rules.specs.Known.{Entry, new_entry}
+use Rattle.rules.specs.Known.{Entry}
 use Rattle.runs.specs.Runs.{spliced}
 use Rattle.entries.specs.Table.{flat, Begins, RightIn, AllRight}
-use Rattle.entries.proofs.Rows.{flat_append, flat_at, begins_form, begins_of}
+use Rattle.entries.proofs.Rows.{flat_append, begins_form, begins_of}
 
 module _ (xs P B C : List ℕ) (b : Begins (P ++ (B ++ C)) xs) where
   R : List ℕ

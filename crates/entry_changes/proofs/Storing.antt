@@ -2,22 +2,18 @@
 use mathlib.Core.Path.{◌≡◌, refl, sym, ap, ap₂, ◌∙◌}
 use mathlib.Core.Bool.{Bool, true, false}
 use mathlib.Core.List.{List, [], ◌∷◌, ◌++◌, map}
-use mathlib.Core.Option.{Option, none, some}
 use Prim.Native.Nat.{ℕ, zero, suc, ◌+◌, ◌-◌, ◌*◌, ◌<◌, ◌≤◌}
 use native.Mathlib.Numerals.{add-one}
 use native.Mathlib.Omega.{arith}
-use lib.Dec.{leb}
-use lib.ListN.{length, take, drop, get_or, set, length-append, length-drop, length-set, get_or-map}
+use lib.ListN.{length, take, drop, get_or, set, length-append, get_or-map}
 use lib.Seq.{paste, length-take-le, take-length, sets-eq, map-set_same}
-use borrow.Author.Tests.{le-leb, lt-leb, leb-true}
-use Rattle.rules.specs.Choice.{if, if_true, if_false, Answer, ok, fault}
+use borrow.Author.Tests.{le-leb, lt-leb}
+use Rattle.rules.specs.Choice.{if_true, if_false, ok, fault}
 use Rattle.rules.specs.Ordered.{Rising}
 use Rattle.rules.proofs.Ordered.{rising_keys, keys_rising}
-use Rattle.rules.specs.Blocks.{Block, block, start_of}
-use Rattle.rules.specs.Slices.{Slices}
+use Rattle.rules.specs.Blocks.{Block, block}
 use Rattle.rules.specs.Known.{Entry, entry_of, new_entry}
 use Rattle.rules.specs.OneFunction.{numbers}
-use Rattle.ordered.specs.Columns.{join}
 use Rattle.ordered.specs.Part.{Replaced}
 use Rattle.function_slices.specs.View.{part, view, Fit}
 use Rattle.function_slices.specs.declared.Small.{Small}
@@ -28,12 +24,11 @@ use Rattle.blocks.proofs.Rows.{row_at}
 use Rattle.runs.specs.Runs.{Fits, spliced}
 use Rattle.runs.proofs.Laws.{splice_done}
 use Rattle.known.specs.Table.{known_rows, as_block, Kept, Knows, ENTRIES, AT_ENDS, KNOWN}
-use Rattle.known.proofs.Entries.{table}
 use Rattle.stored.specs.Laid.{laid, Stored}
 use Rattle.entries.specs.Columns.{small_of, numbers_long}
-use Rattle.entries.specs.Table.{flag, flags, row, row_of, info_row, numbers_in, entry_numbers, flat, Begins, small_from, row_size, sizes, RightIn, Holds, Good, Told}
+use Rattle.entries.specs.Table.{flag, flags, row, info_row, entry_numbers, flat, Begins, small_from, sizes, Holds, Told}
 use Rattle.entries.proofs.Reading.{entries_rise}
-use Rattle.entries.proofs.Rows.{row_long, rows_long, sizes_laid, flat_at, begins_form, begins_le, count_is, row_within, offset_is, size_is, numbers_within}
+use Rattle.entries.proofs.Rows.{row_long, rows_long, sizes_laid, flat_at, begins_form, begins_le, count_is, offset_is, size_is}
 use Rattle.entry_changes.specs.Changed.{analyzed_entry, KnownAre, IsSpan, fitted}
 use Rattle.entry_changes.specs.declared.Span.{Span}
 use Rattle.entry_changes.proofs.Splicing.{splice_begins, over_begins, flat_set, right_set}

@@ -1,10 +1,10 @@
 -- A function symbol is an entry whose end is set.
-use mathlib.Core.Path.{◌≡◌, refl, sym, ap, ◌∙◌}
-use mathlib.Core.Bool.{Bool, true, false}
+use mathlib.Core.Path.{◌≡◌, refl, ap, ◌∙◌}
+use mathlib.Core.Bool.{true}
 use mathlib.Core.List.{List}
-use Prim.Native.Nat.{ℕ, min, ◌+◌}
+use Prim.Native.Nat.{ℕ, ◌+◌}
 use Rattle.rules.specs.Choice.{if, by_if, Answer, ok, fault, ◌>>=◌, limited}
-use Rattle.rules.specs.Ordered.{rank, has, put, upper}
+use Rattle.rules.specs.Ordered.{has, put, upper}
 use Rattle.rules.proofs.Ordered.{has_at}
 use Rattle.rules.specs.Address.{key}
 use Rattle.rules.specs.Image as image

@@ -1,16 +1,15 @@
 -- Lists that stand in two slices as columns of numbers: told whole.
-use mathlib.Core.Path.{◌≡◌, refl, sym, ap, ap₂, ◌∙◌}
-use mathlib.Core.Bool.{Bool, true}
-use mathlib.Core.List.{List, ◌∷◌, [], map}
-use Prim.Native.Nat.{ℕ, ◌+◌, ◌≤◌}
+use mathlib.Core.Path.{◌≡◌, refl, sym, ap, ◌∙◌}
+use mathlib.Core.Bool.{true}
+use mathlib.Core.List.{List}
+use Prim.Native.Nat.{ℕ}
 use native.Mathlib.Omega.{arith}
-use lib.ListN.{length, take, drop}
+use lib.ListN.{length, take}
 use lib.Seq.{length-take-le, take-take}
-use Rattle.rules.specs.Blocks.{block, start_of}
-use Rattle.rules.specs.Slices.{Slices, count_branches, own_address}
-use Rattle.rules.specs.OneFunction.{end_of, size_of, way_froms, way_tos}
+use Rattle.rules.specs.Blocks.{block}
+use Rattle.rules.specs.Slices.{count_branches}
 use Rattle.ordered.proofs.Columns.{rows_length}
-use Rattle.function_slices.specs.View.{part, Parts, parts, table, lists_of, view, Held, Fit}
+use Rattle.function_slices.specs.View.{part, parts, table, lists_of, view, Held, Fit}
 use Rattle.function_slices.specs.declared.Small.{Small}
 use Rattle.stored.proofs.Numbers.{froms_count}
 use Rattle.stored.proofs.Columns.{starts_are, ends_are, froms_are, tos_are, addresses_are, sizes_are, starts_fit, ends_fit, froms_fit, tos_fit, references_fit, addresses_fit, sizes_fit, possible_fit}

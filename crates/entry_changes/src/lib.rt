@@ -1,7 +1,8 @@
 // The entries of the map in lent slices, changed: an entry added, its lists stored, its end set, or set aside.
 #![tactic(auto)]
 
-ghost use Rattle.std.specs.Prelude.{◌≡◌, List, ◌∷◌, ◌++◌, true, suc, min, ◌+◌, ◌-◌, ◌*◌, ◌<◌, ◌≤◌, length, take, drop, get_or, set, replicate};
+ghost use Rattle.std.specs.Prelude.{◌≡◌, ◌∷◌, ◌++◌, ◌+◌, ◌-◌, ◌*◌, ◌<◌, ◌≤◌};
+ghost use Rattle.std.specs.Prelude.{List, true, suc, min, length, take, drop, get_or, set, replicate};
 ghost use Rattle.rules.specs.Ordered.{insert_at};
 ghost use Rattle.rules.specs.Blocks.{block};
 ghost use Rattle.rules.specs.Known.{Entry, new_entry};

@@ -1,10 +1,10 @@
 -- The entries read back from the result lists, and what is printed of them.
-use mathlib.Core.Path.{◌≡◌, refl, sym, ap, ap₂, ◌∙◌}
+use mathlib.Core.Path.{◌≡◌, sym, ap, ap₂, ◌∙◌}
 use mathlib.Core.List.{List, [], ◌∷◌, ◌++◌, append_assoc}
 use Prim.Native.Nat.{ℕ, suc, ◌+◌, ◌*◌, ◌-◌, ◌<◌, ◌≤◌}
 use native.Mathlib.Omega.{arith}
 use lib.ListN.{length, take, drop, replicate, length-append, length-drop}
-use lib.Seq.{drop_at, take_at, take_all, drop-drop}
+use lib.Seq.{drop_at, take_all, drop-drop}
 use Rattle.rules.specs.Choice.{ok, fault}
 use Rattle.rules.specs.Known.{Entry}
 use Rattle.rules.specs.Lines.{text, line_R, lines_entry, lines_map, lines}

@@ -1,17 +1,17 @@
 -- The last row of a list that stands in the first numbers of a lent one.
 use mathlib.Core.Path.{◌≡◌, refl, sym, ap, ap₂, ◌∙◌}
-use mathlib.Core.List.{List, [], ◌∷◌, ◌++◌}
-use mathlib.Core.Bool.{Bool, true, false, ◌&&◌}
-use mathlib.Core.Option.{Option, none, some}
-use Prim.Native.Nat.{ℕ, zero, suc, ◌+◌, ◌*◌, ◌-◌, ◌/◌, ◌%◌, ◌<◌, ◌≤◌}
+use mathlib.Core.List.{List, [], ◌∷◌}
+use mathlib.Core.Bool.{true, false}
+use mathlib.Core.Option.{none, some}
+use Prim.Native.Nat.{ℕ, ◌+◌, ◌-◌, ◌/◌, ◌%◌, ◌<◌, ◌≤◌}
 use native.Mathlib.Omega.{arith}
-use lib.Dec.{ltb, leb, eqb}
+use lib.Dec.{leb, eqb}
 use lib.ListN.{length, take, get_or, set, length-set}
 use lib.Seq.{length-take-le, get_or-take, take-set-lt}
 use borrow.Author.Tests.{leb-true, le-leb, lt-leb, eq-eqb, ne_eqb}
 use Rattle.rules.proofs.Tests.{and_left}
 use Rattle.rules.specs.Choice.{if}
-use Rattle.reading.specs.LastRows.{back, set_back, Now, last_kind, last_is, word_bytes, PutWord, add_word, both, WordAdded, set_target, set_table, with_branch, way_of, add_branch, told, Told}
+use Rattle.reading.specs.LastRows.{back, set_back, Now, last_kind, last_is, PutWord, add_word, both, WordAdded, with_branch, told, Told}
 use Rattle.reading.specs.Rows.{Put}
 use Rattle.reading.proofs.Putting.{put_one, put_both}
 

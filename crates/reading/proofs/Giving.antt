@@ -1,19 +1,17 @@
 -- What each frame of a symbol, a skip range or the entry point comes to.
-use mathlib.Core.Path.{◌≡◌, refl, sym, ap, ◌∙◌}
+use mathlib.Core.Path.{◌≡◌, refl, ap, ◌∙◌}
 use mathlib.Core.List.{List, [], ◌∷◌}
 use mathlib.Core.Bool.{Bool, true, false}
-use mathlib.Core.Option.{Option, none, some}
+use mathlib.Core.Option.{none, some}
 use Prim.Native.Nat.{ℕ, ◌≤◌}
-use native.Mathlib.Omega.{arith}
 use lib.ListN.{length, take}
 use Rattle.rules.specs.Choice.{if}
-use Rattle.obj_image.specs.Lent.{Lent, lent}
 use Rattle.reading.specs.declared.line.Frame.{Frame}
 use Rattle.reading.specs.declared.rows.Count.{Count}
 use Rattle.reading.specs.Rows.{counted, Added}
-use Rattle.reading.specs.Struct.{of_kind, frame_of}
+use Rattle.reading.specs.Struct.{of_kind}
 use Rattle.reading.specs.PutFrame.{onward, put_frame, put_line, in_functions, in_objects, in_skips, in_entry}
-use Rattle.reading.specs.View.{lists, view, room, GivenPut}
+use Rattle.reading.specs.View.{lists, view, GivenPut}
 use Rattle.reading.specs.declared.state.Reading.{Reading}
 
 pub onward_if : {A B : Type 0} (h : A → B) (t : Bool) (x : A) → if t (some (h x)) none ≡ onward h (if t (some x) none)

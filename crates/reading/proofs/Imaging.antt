@@ -6,17 +6,17 @@ use mathlib.Core.Option.{Option, none, some}
 use Prim.Native.Nat.{ℕ, ◌<◌, ◌≤◌}
 use native.Mathlib.Decide.{dec_lt}
 use native.Mathlib.Omega.{arith}
-use lib.Dec.{leb, eqb}
+use lib.Dec.{leb}
 use lib.ListN.{length, take}
 use lib.Seq.{length-take-le}
 use borrow.Author.Tests.{le-leb, lt-leb, eq-eqb, ne_eqb}
 use Rattle.rules.specs.Choice.{if}
-use Rattle.obj_image.specs.Lent.{Lent, lent}
+use Rattle.obj_image.specs.Lent.{Lent}
 use Rattle.reading.specs.declared.line.Frame.{Frame}
 use Rattle.reading.specs.declared.rows.Count.{Count}
 use Rattle.reading.specs.Rows.{add_row, counted, Added}
 use Rattle.reading.specs.Struct.{of_kind, frame_of}
-use Rattle.reading.specs.LastRows.{last_kind, add_word, both, WordAdded, set_target, set_table, add_branch, told, Told}
+use Rattle.reading.specs.LastRows.{last_kind, both, WordAdded, set_target, set_table, add_branch, told, Told}
 use Rattle.reading.proofs.Ending.{no_section}
 use Rattle.reading.specs.PutFrame.{onward, put_word, put_outcome, put_frame, put_line, in_both, in_outcomes, in_sections}
 use Rattle.reading.specs.View.{lists, view, room, WordPut, ImagePut, ToldPut}

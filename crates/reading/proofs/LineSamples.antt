@@ -1,11 +1,11 @@
 -- Lines of each kind, and lines that are none: computed.
 use mathlib.Core.Path.{◌≡◌, refl}
-use mathlib.Core.List.{List, [], ◌∷◌, ◌++◌, map}
-use mathlib.Core.Option.{Option, none, some}
+use mathlib.Core.List.{[], ◌∷◌, ◌++◌, map}
+use mathlib.Core.Option.{none, some}
 use lib.ListN.{replicate}
 use Rattle.rules.specs.Choice.{if}
 use Rattle.rules.specs.Text.{bytes}
-use Rattle.reading.specs.Frames.{Frame, section, word, code_word, target, table, branch, function, object, skip, entry, digit_value, number, tagged, read_frame}
+use Rattle.reading.specs.Frames.{section, word, code_word, target, table, branch, function, object, skip, entry, digit_value, number, tagged, read_frame}
 
 -- one of each kind, with digits of either case
 frames_read :

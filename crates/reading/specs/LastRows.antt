@@ -1,6 +1,6 @@
 -- What a frame changes in the last row of a list: the bytes given of the last section, and what the last code word does. A list stands
 -- in the first numbers of a lent one.
-use Rattle.std.specs.Prelude.{◌≡◌, Bool, true, false, ◌&&◌, List, [], ◌∷◌, ◌++◌, ℕ, ◌+◌, ◌*◌, ◌-◌, ◌/◌, ◌%◌, ◌≤◌, leb, eqb, length, take, get_or, set}
+use Rattle.std.specs.Prelude.{◌≡◌, Bool, ◌&&◌, List, [], ◌∷◌, ◌++◌, ℕ, ◌+◌, ◌*◌, ◌-◌, ◌/◌, ◌%◌, ◌≤◌, leb, eqb, length, take, get_or, set}
 use Rattle.std.proofs.Math.Option.{Option, none, some}
 use Rattle.rules.specs.Choice.{if}
 use Rattle.reading.specs.declared.rows.Count.{Count}

@@ -4,7 +4,7 @@
 -- do: a jump or a table that no frame 03 or 04 follows has the address 0, which lies in no section (2); a third branch makes the second
 -- way one that there is none of (2); a second entry point makes a list of two (3). A list that is longer than its rule allows stays as it
 -- is, since its answer is known.
-use Rattle.std.specs.Prelude.{ℕ, Bool, ◌&&◌, List, [], ◌∷◌, leb, eqb, length}
+use Rattle.std.specs.Prelude.{ℕ, List, [], ◌∷◌, leb, eqb, length}
 use Rattle.std.proofs.Math.Option.{Option, none, some}
 use Rattle.rules.specs.Choice.{if}
 use Rattle.obj_image.specs.Lent.{Lent, lent}

@@ -39,8 +39,7 @@ pub struct Took {
     pub top: Popped,
 }
 
-// Records lent for a call, by value: the table and the answer of a mark or a cut, the list and the answer of a push or a pop. The answer
-// of a mark or a cut is a local before it is given back, as the table is: so one walk proves all four.
+// Records lent for a call, by value: the table and the answer of a mark or a cut, the list and the answer of a push or a pop.
 fn mark_table(table: [Block; 260], count: usize, addr: u64) -> [Block; 260]
     ensures { result ≡ list_of table (mark_records count addr table) }
 {
@@ -90,7 +89,7 @@ fn pop_in(p: Pending) -> Took
 }
 
 // The table in both forms, and how often they disagreed.
-#[derive(Drop)]
+#[derive(Clone, Copy)]
 struct Tables {
     records: [Block; 260],
     count: usize,
@@ -101,7 +100,7 @@ struct Tables {
 }
 
 // The list in both forms, and how often they disagreed.
-#[derive(Drop)]
+#[derive(Clone, Copy)]
 struct Lists {
     addresses: [u64; 256],
     count: usize,
@@ -256,7 +255,7 @@ fn told_table(table: Tables, d: Done, m: Marking) -> Tables {
 }
 
 // The core's table after a mark.
-#[derive(Drop)]
+#[derive(Clone, Copy)]
 struct Core {
     starts: [u64; 260],
     ends: [u64; 260],

@@ -1,9 +1,4 @@
 pub mod Turns
-pub mod Rows
-pub mod Tests
 pub mod Reached
-pub mod Again
 pub mod Lists
 pub mod Changes
-pub mod Calls
-pub mod Uses

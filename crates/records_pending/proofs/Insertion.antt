@@ -1,4 +1,4 @@
--- An insertion that has come down to k, and what `push` and `pop` make of a record.
+-- An insertion that has come down to k, and what `push` makes of a record.
 use mathlib.Core.Path.{◌≡◌, refl, sym, ◌∙◌, ap, ap₂}
 use mathlib.Core.List.{List, [], ◌∷◌}
 use Prim.Native.Nat.{ℕ, suc, ◌+◌, ◌-◌, ◌<◌, ◌≤◌}
@@ -13,10 +13,9 @@ use Rattle.rules.specs.Choice.{if_true, if_false, by_if, ok, fault, limited}
 use Rattle.rules.specs.Step.{insert}
 use Rattle.executor.specs.Pending.{stack}
 use Rattle.executor.proofs.Stack.{Shifted, shift_none, shift_more, shift_end, shift_stop, length_stack}
-use Rattle.records_pending.specs.Record.{list_of, IsPushed, IsPopped, IsAdded, IsTaken}
+use Rattle.records_pending.specs.Record.{list_of, IsPushed, IsAdded}
 use Rattle.records_pending.specs.declared.Pending.{Pending}
 use Rattle.records_pending.specs.declared.Added.{Added}
-use Rattle.records_pending.specs.declared.Taken.{Taken}
 
 -- what stood at k and above is one further up, and nothing past n has changed
 pub record Lowered (a₀ : List ℕ) (n t : ℕ) (a : List ℕ) (k : ℕ) : Type 0 where
@@ -72,10 +71,3 @@ module _ (p : Pending) (addr : ℕ) (xs : List ℕ) (r : Added) (e : IsAdded p.a
           let l : 256 ≤ p.count = omega arith in
           let full : limited 256 (insert addr (list_of p)) ≡ fault 4 = if_false (lt-leb (length (insert addr (list_of p))) 256 (omega (arith, long))) _ _ in
           record { told = rw full ((e.full l).0, ap₂ pending (e.full l).2 (e.full l).1) }
-
-pub popped : (p : Pending) (xs : List ℕ) (r : Taken) → (xs ≡ p.addresses) × IsTaken p.addresses p.count r → IsPopped p (pending xs r.count) r.top
-popped p xs r e = record {
-  within = λ l. rw e.0 (e.1.within l);
-  past = λ l. ((e.1.past l).0, ap₂ pending e.0 (e.1.past l).1);
-  same = e.0;
-}

@@ -8,7 +8,7 @@ ghost use Rattle.records_pending.specs.Record.{IsPushed, IsPopped, IsAdded, IsTa
 
 // The first `count` addresses are pending, in ascending order.
 #[repr(C)]
-#[derive(Drop)]
+#[derive(Clone, Copy)]
 pub struct Pending {
     pub addresses: [u64; 256],
     pub count: usize,

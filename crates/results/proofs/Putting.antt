@@ -3,11 +3,11 @@ use mathlib.Core.Path.{◌≡◌, refl, sym, ap, ap₂, ◌∙◌}
 use mathlib.Core.List.{List, [], ◌∷◌, ◌++◌, append_assoc, append-nil}
 use Prim.Native.Nat.{ℕ, suc, ◌+◌, ◌-◌, ◌*◌, ◌≤◌, ◌<◌}
 use native.Mathlib.Omega.{arith}
-use lib.ListN.{length, take, drop, get_or, set, replicate, length-set, length-append, length-replicate, length-drop, drop_of_length-le}
-use lib.Seq.{paste, length-paste, take-paste, take-suc-set, take-set-le, length-take-le, take_all, take_at, take-suc}
+use lib.ListN.{length, take, drop, get_or, set, replicate, length-set, length-replicate, length-drop, drop_of_length-le}
+use lib.Seq.{paste, length-paste, take-paste, take-suc-set, length-take-le, take_all, take_at, take-suc}
 use Rattle.rules.specs.Known.{Entry, new_entry}
-use Rattle.entries.specs.Table.{info_row, entry_numbers, flat, sizes, Begins, Holds, INFOS}
-use Rattle.entries.proofs.Rows.{row_long, flat_append, begins_form, begins_le, rows_long, sizes_laid, count_is, behind, row_at}
+use Rattle.entries.specs.Table.{info_row, entry_numbers, flat, sizes, Holds, INFOS}
+use Rattle.entries.proofs.Rows.{row_long, flat_append, begins_form, begins_le, sizes_laid, count_is, behind, row_at}
 use Rattle.entries.proofs.Lookups.{entry_at, end_at}
 use Rattle.runs.specs.Runs.{padded}
 use Rattle.results.specs.Rows.{result_row, RowPut, RowsAre, Results}

@@ -1,7 +1,7 @@
 -- The map in the lent result lists. `rows` has ten numbers for each entry: its address, its end (0 for none), flags (1 analyzed, 2 has
 -- lists, 4 conditional `blr`, 8 `rfi`, 16 load of r1, 32 finalized), prologue, epilogue, and how many blocks, ways on, references, jump
 -- tables and possible blocks it has. `lists` has the numbers of the functions' lists, one function's directly behind the other's.
-use Rattle.std.specs.Prelude.{◌≡◌, List, [], ◌∷◌, ◌++◌, ℕ, zero, suc, ◌+◌, ◌-◌, length, take, drop, get_or, replicate}
+use Rattle.std.specs.Prelude.{◌≡◌, List, [], ◌∷◌, ◌++◌, ℕ, zero, suc, ◌+◌, length, take, drop, get_or}
 use Rattle.rules.specs.Blocks.{block}
 use Rattle.rules.specs.Known.{Entry}
 use Rattle.runs.specs.Runs.{padded}

@@ -15,8 +15,9 @@ shape_of-p c = simp length-set c.loop-k.invariant.long
 
 pub returns : goal.returns
 returns c = let l = c.loop-k in (
-      elim c.loop-k-test.branch [
-        then-loop-k-test+else-addr-p w ↦ shift_stop _ _ _ c.requires l.p l.k w.loop-k-test.true w.if-addr-p.false l.invariant
-      | else-loop-k-test w ↦ shift_end _ _ _ c.requires l.p l.k w.loop-k-test.false l.invariant ],
-      simp length-set l.invariant.long,
-    )
+  elim c.loop-k-test.branch [
+    | then-loop-k-test+else-addr-p w ↦ shift_stop _ _ _ c.requires l.p l.k w.loop-k-test.true w.if-addr-p.false l.invariant
+    | else-loop-k-test w ↦ shift_end _ _ _ c.requires l.p l.k w.loop-k-test.false l.invariant
+  ],
+  simp length-set l.invariant.long,
+)

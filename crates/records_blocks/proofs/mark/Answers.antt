@@ -1,0 +1,6 @@
+use Rattle.rules.specs.Choice.{if}
+use Rattle.records_blocks.proofs.mark.Goals as goal
+
+pub returns : goal.returns
+unfolding if
+returns c = c.work.ensures
