@@ -1,6 +1,6 @@
 /* The function map of a PowerPC image, by a library that is proved to give the map of the rules.
 
-   Link with libwoqchari.a (rt staticlib woqchari). The library allocates nothing, keeps nothing between calls, and reads and writes
+   Link with libwoqchari.a (tools/library builds it). The library allocates nothing, keeps nothing between calls, and reads and writes
    nothing but what it is lent. docs/ARCHITECTURE.md says more of each list.
 
    A call takes up to 173,376 bytes of stack, whatever it is lent: measured on 2,606 images of all kinds, on x86-64. A thread with a stack of

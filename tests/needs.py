@@ -60,8 +60,9 @@ def command(words):
     words = shlex.split(words) if isinstance(words, str) else words
     if not words or not shutil.which(words[0]):
         path = words[0] if words else ''
-        built = os.path.dirname(os.path.abspath(path)) == os.path.join(ROOT, 'target', 'bin')
-        raise argparse.ArgumentTypeError('there is no program %s%s' % (path, '; rt check %s proves and builds it' % os.path.basename(path) if built else ''))
+        crate = os.path.basename(path)
+        ours = os.path.abspath(path) == built(crate)
+        raise argparse.ArgumentTypeError('there is no program %s%s' % (path, '; rt run in crates/%s proves and builds it' % crate if ours else ''))
     return words
 
 
@@ -71,7 +72,7 @@ def program(path):
 
 def built(name):
     """A program of this repository."""
-    return os.path.join(ROOT, 'target', 'bin', name)
+    return os.path.join(ROOT, 'crates', name, 'out', name)
 
 
 def file(path):

@@ -6,6 +6,7 @@
 #     need gcc rt                   # each must be on the PATH, else status 2
 #     need_rust                     # a compiler for Rust, edition 2024
 #     need_oracle SRC               # what tests/oracle/build needs
+#     timed_library ROOM CRATE...   # proves and builds a static library of the source on standard input, over copies of the crates: its path
 #     bad_usage ["WORDS"]           # the words and the comment on standard error, status 2
 #     refuse "WORDS"                # the words alone, status 2
 #
@@ -69,4 +70,21 @@ need_oracle() {
     for file in analysis/{slices,cfa,executor,mod} obj/{mod,sections,symbols,relocations} util/mod; do
         [ -r "$1/src/$file.rs" ] || refuse "$1 has no src/$file.rs; SRC is a checkout of encounter/decomp-toolkit, commit 9d1ac132c4"
     done
+}
+
+# For what no crate exports to C: a crate that does, beside copies of those that it stands on. Its folder lies outside the repository, in which rt
+# takes no other crates. Those that it stands on are proved where they are, and a copy takes what was proved of the same files.
+timed_library() { # ROOM CRATE...
+    local room=$1 crate root
+    root=$(dirname "$tests")
+    shift
+    mkdir -p "$room/crates/timed/src" "$root/target"
+    cat > "$room/crates/timed/src/lib.rt"
+    { cat "$root/crates.txt"; echo "timed staticlib: $*"; } > "$room/crates.txt"
+    (cd "$root" && cp -r --parents crates/*/src crates/*/specs crates/*/proofs "$room")
+    {
+        for crate in "$@"; do (cd "$root/crates/$crate" && rt lib) || return; done
+        (cd "$room/crates/timed" && rt lib)
+    } > "$root/target/bench.log" 2>&1 || { cat "$root/target/bench.log" >&2; return 1; }
+    echo "$room/crates/timed/out/libtimed.a"
 }

@@ -60,7 +60,7 @@ def given(frames):
         if k == 4:
             return f'jumps {m} {number(a)}'
         if k == 5:
-            return f'uses-table {m} {number(a)} {number(s)}'
+            return f'uses_table {m} {number(a)} {number(s)}'
         if k == 6:
             return f'lists {m} ' + nested(f'branch {l} {t} {number(x)}' for l, t, x in bs)
         return f'does {k} {m}'
@@ -69,7 +69,7 @@ def given(frames):
     symbol = lambda s: f'symbol {number(s[0])} {number(s[1])} {s[2]}'
     return 'record {\n      ' + ';\n      '.join((
         'sections = ' + listed(f'section {k} {number(b)} {number(s)} {number(len(d))}' for k, b, s, d in sections),
-        'bytes = bytes-of ' + words(b''.join(d for *_, d in sections)),
+        'bytes = bytes_of ' + words(b''.join(d for *_, d in sections)),
         'outcomes = ' + listed(outcome(*o) for o in outcomes),
         'functions = ' + listed(map(symbol, functions)),
         'objects = ' + listed(map(symbol, objects)),
@@ -90,12 +90,12 @@ def split(path):
 
 HEAD = '''-- Worked examples: images handed in, and the lines that the Rust gives for them, computed by the definitions.
 -- Written by tests/definitions/theorems.py from examples.in and examples.out beside it.
-use mathlib.Core.Path.{_≡_, refl}
-use mathlib.Core.List.{[], _∷_}
-use Rattle·rules·specs.specs.Text.{bytes}
-use Rattle·rules·specs.specs.Given.{Given}
-use Rattle·rules·proofs.proofs.Images.{bytes-of, section, does, jumps, uses-table, lists, branch, symbol, range}
-use Rattle·rules·proofs.proofs.Whole.{whole, enough}
+use mathlib.Core.Path.{◌≡◌, refl}
+use mathlib.Core.List.{[], ◌∷◌}
+use Rattle.rules.specs.Text.{bytes}
+use Rattle.rules.specs.Given.{Given}
+use Rattle.rules.proofs.Images.{bytes_of, section, does, jumps, uses_table, lists, branch, symbol, range}
+use Rattle.rules.proofs.Whole.{whole, enough}
 '''
 
 
@@ -106,16 +106,16 @@ def main():
     o = options.parse_args()
     print(HEAD)
     for i, ((notes, frames), (_, lines)) in enumerate(zip(split(o.images), split(o.answers), strict=True)):
-        name, room = f'image-{i}', 'enough'
+        name, room = f'image_{i}', 'enough'
         for note in notes:
             if note[0] == 'room':
                 room = '(' + record(entries=note[1], numbers=note[2]) + ')'
             else:
-                name = note[0]
+                name = note[0].replace('-', '_')
         print(f'unfoldable pub {name} : Given\n{name} =\n    {given(frames)}\n')
-        print(f'pub {name}-lines : whole {name} {room} ≡')
+        print(f'pub {name}_lines : whole {name} {room} ≡')
         print('    ' + listed(f'bytes "{l}"' for l in lines).replace(' ∷ ', ' ∷\n    '))
-        print(f'unfolding whole {name}\n{name}-lines = refl\n')
+        print(f'unfolding whole {name}\n{name}_lines = refl\n')
 
 
 if __name__ == '__main__':

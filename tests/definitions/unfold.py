@@ -26,13 +26,13 @@ def main():
     options.add_argument('crate', type=crate)
     folder = options.parse_args().crate
     modules = re.findall(r'^pub mod (\w+)', (folder / 'specs/Lib.antt').read_text(), re.M)
-    names = [f'{m}.{n}' for m in modules if m not in ('Accounted', 'OneFunction')
+    names = [f'{m}.{n}' for m in modules if m not in ('Accounted', 'OneFunction', 'Plain')
              for n in re.findall(r'^ *unfoldable pub (\S+) :', (folder / f'specs/{m}.antt').read_text(), re.M)]
     print('-- A whole run with every definition unfolded, so that it computes. Written by tests/definitions/unfold.py.')
     print('use mathlib.Core.List.{List}')
-    print('use Rattle·rules·specs.specs.Lines.{Line}')
+    print('use Rattle.rules.specs.Lines.{Line}')
     for m in dict.fromkeys(n.split('.')[0] for n in names):
-        print(f'use Rattle·rules·specs.specs.{m}')
+        print(f'use Rattle.rules.specs.{m}')
     print()
     print('unfoldable pub whole : Given.Given → Map.Capacity → List Line')
     print('unfolding ' + ' '.join(names))

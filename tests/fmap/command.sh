@@ -6,11 +6,11 @@ tools=$work/tools
 sample=$here/cases/sample.frames
 
 make_copy() {
-    mkdir -p "$copy/crates/fmap" "$copy/docs" "$copy/target/bin" "$tools" "$work/fake"
+    mkdir -p "$copy"/crates/fmap/{src,out} "$copy/docs" "$tools" "$work/fake"
     cp "$root/fmap" "$copy/fmap"
     cp "$root/docs/numbers.txt" "$copy/docs/"
-    printf '# Two crates below it, and one that it does not need.\nlow:\nmiddle: low libc\nother: low\nfmap: low middle io # the program\n' > "$copy/crates.txt"
-    touch -d '2001-01-01' "$copy/crates.txt" "$copy/crates" "$copy/crates/fmap"
+    printf '# Two crates below it, and two that it does not need.\nlow:\nmiddle: low io\nother: low\nlow_c staticlib: low\nfmap: low middle io # the program\n' > "$copy/crates.txt"
+    touch -d '2001-01-01' "$copy/crates.txt" "$copy/crates" "$copy/crates/fmap" "$copy/crates/fmap/src"
     # A PATH with what the command needs and no rt.
     local tool
     for tool in awk bash cat cp dirname find head mkdir mktemp realpath rm sed touch; do ln -sf "$(command -v $tool)" "$tools/$tool"; done
@@ -18,9 +18,12 @@ make_copy() {
     cat > "$work/fake/rt" <<'END'
 #!/usr/bin/env bash
 echo "$PWD: rt $*" >> "$RT_CALLS"
-echo 'a line of the prover'
-echo 'rt: low proved (5 s)'
-echo 'rt: middle proved (unchanged since it was last proved)'
+exec 3>&1 >&2
+echo 'rt: chose --jobs 2 for low'
+echo 'fn low::one: proved'
+echo 'statements std: modules loaded=21 checked=0'
+echo 'crate low: modules loaded=1 checked=32'
+echo 'logic=proved functions=1 sum=0'
 eval "$RT_DOES"
 END
     chmod +x "$work/fake/rt"
@@ -30,11 +33,11 @@ END
 
 # The program in the copy, which is newer than its code.
 put_program() { # FILE
-    cp "$1" "$copy/target/bin/fmap"
-    chmod +x "$copy/target/bin/fmap"
+    cp "$1" "$copy/crates/fmap/out/fmap"
+    chmod +x "$copy/crates/fmap/out/fmap"
 }
 
-no_program() { rm -f "$copy/target/bin/fmap"; }
+no_program() { rm -f "$copy/crates/fmap/out/fmap"; }
 
 # A program of a few words of shell.
 fake_program() { # WORDS
@@ -126,7 +129,7 @@ try_command() {
     try 'an answer that cannot be written' 2 "$nothing" 'cannot write' full without_rt "$sample"
     try 'too little stack' 2 "$nothing" 'is there less than 5 MB of stack' little_stack without_rt "$sample"
     no_program
-    try 'no program, and no rt' 2 "$nothing" "rt is not on the PATH, and target/bin/fmap is not there" without_rt "$sample"
+    try 'no program, and no rt' 2 "$nothing" "rt is not on the PATH, and crates/fmap/out/fmap is not there" without_rt "$sample"
     try 'a file that is not there, and no program' 2 "$nothing" "cannot read" with_rt "$work/none"
     also 'a file that is not there is told before anything is proved' rt_calls 0
     # words about itself, with no program
@@ -142,25 +145,29 @@ try_command() {
     also '--help says the statuses' grep -q 'Exit status: 0 a map, 1 a number, 2 nothing could be run' "$work/help"
     also '--version is one line with a number' grep -qx 'fmap of Woqchari [0-9.]*, after decomp-toolkit [0-9a-f]*' "$work/version"
     # what it does with rt
-    RT_DOES="cp '$program' target/bin/fmap; echo 'rt: fmap proved (1 s)'; echo 'rt: ok, 3 crates proved'"
-    try 'first use: it is proved' 0 "$map" 'fmap: target/bin/fmap is not there; it is proved and built first' with_rt "$sample"
-    also 'first use: rt check fmap, once, in its folder' grep -qx "$(realpath "$copy"): rt check fmap" "$RT_CALLS"
-    also 'progress: the first of three crates' said 'fmap: 1 of 3: low proved (5 s)'
+    RT_DOES="cp '$program' out/fmap; echo 'library low: modules loaded=2 checked=0'; echo 'crate fmap: modules loaded=0 checked=9'; echo 'logic=proved functions=2 sum=0'; echo R 01 >&3"
+    try 'first use: it is proved' 0 "$map" 'fmap: crates/fmap/out/fmap is not there; it is proved and built first' with_rt "$sample"
+    also 'first use: rt run, once, in its folder' grep -qx "$(realpath "$copy")/crates/fmap: rt run" "$RT_CALLS"
+    also 'first use: once' rt_calls 1
+    also 'progress: the first of three crates' said 'fmap: 1 of 3: low proved'
     also 'progress: a crate that was proved before is not named' said_not middle
-    also 'progress: the last of three crates' said 'fmap: 3 of 3: fmap proved (1 s)'
-    also 'progress: not what the prover says' said_not 'a line of the prover'
+    also 'progress: the last of three crates' said 'fmap: 3 of 3: fmap proved'
+    also 'progress: not what the prover says' said_not 'modules loaded'
+    also 'what the prover says is kept' grep -qx 'fn low::one: proved' "$copy/target/fmap.log"
     try 'second use: nothing is proved' 0 "$map" '' with_rt "$sample"
-    touch "$copy/crates/fmap/new"
-    try 'the code is newer' 0 "$map" 'fmap: the code is newer than target/bin/fmap' with_rt "$sample"
+    touch "$copy/crates/fmap/src/new"
+    try 'the code is newer' 0 "$map" 'fmap: the code is newer than crates/fmap/out/fmap' with_rt "$sample"
     try 'the use after that: nothing is proved' 0 "$map" '' with_rt "$sample"
-    rm "$copy/crates/fmap/new"
+    touch "$copy/crates/fmap/out/kept"
+    try 'what rt keeps is no code' 0 "$map" '' with_rt "$sample"
+    rm "$copy/crates/fmap/src/new"
     try 'a file of the code was taken away, and no rt' 2 "$nothing" 'rt is not on the PATH, and the code is newer' without_rt "$sample"
-    RT_DOES="echo 'rt: fmap NOT PROVED (exit 1, 3 s)'; exit 1"
-    try 'the proof fails, with an older program there' 2 "$nothing" 'fmap: not proved, so it is not run' with_rt "$sample"
-    also 'the proof fails: which crate' said 'fmap: fmap NOT PROVED (exit 1, 3 s)'
+    RT_DOES="echo 'crate fmap: modules loaded=0 checked=9'; echo 'logic=not-proved'; exit 1"
+    try 'the proof fails, with an older program there' 2 "$nothing" 'fmap: not proved and built, so it is not run' with_rt "$sample"
+    also 'the proof fails: which crate' said 'fmap: fmap is not proved'
     no_program
     RT_DOES='true'
-    try 'rt ends well, and there is no program' 2 "$nothing" 'there is no target/bin/fmap' with_rt "$sample"
+    try 'rt ends well, and there is no program' 2 "$nothing" 'there is no crates/fmap/out/fmap' with_rt "$sample"
     # programs that are not the proved one
     fake_program 'kill -SEGV $$'
     try 'a program that is killed' 2 "$nothing" 'ended with the status 139' without_rt "$sample"

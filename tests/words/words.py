@@ -23,9 +23,9 @@ ALL = list(itertools.product((0, 1, 3), repeat=3))
 
 
 def known_extended():
-    part = TABLE[TABLE.index('extended-table ='):]
+    part = TABLE[TABLE.index('extended_table ='):]
     rows = {int(n) for n in re.findall(r'^ +row (\d+) ', part, re.M)}
-    arithmetic = {int(n) for n in re.findall(r'^ +row (\d+) ', part[part.index('arithmetic-table ='):], re.M)}
+    arithmetic = {int(n) for n in re.findall(r'^ +row (\d+) ', part[part.index('arithmetic_table ='):], re.M)}
     return rows | {n + 512 for n in arithmetic}
 
 

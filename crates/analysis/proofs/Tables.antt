@@ -200,8 +200,8 @@ module _ (s b : List ℕ) (t : ℕ) (p : Part) (passed : Passed s b) where
 
     pub table_found : h ≡ true → (a known n : ℕ) (r : Table) → a ≡ address_of t → InPart b p a → known ≡ known_size a (image l).objects → n ≡ first_size known size → IsTable (table_reading (seen s) p b a n first past) xs r → IsTable (jump_table_entries (image l) t size first past) xs r
     unfolding jump_table_entries
-    table_found e a known n r at lies is_Known is_n is =
-        rw (if_true (kind_is true e) _ _, ← at, ← is_Known, ← is_n, table_is l s b is_s is_b (passed_by l is_s is_b) p t a part (no_bss p.kind h kind e) lies n first past) is
+    table_found e a known n r at lies is_known is_n is =
+        rw (if_true (kind_is true e) _ _, ← at, ← is_known, ← is_n, table_is l s b is_s is_b (passed_by l is_s is_b) p t a part (no_bss p.kind h kind e) lies n first past) is
 
     pub no_table_here : h ≡ false → Column 256 0 xs → IsTable (jump_table_entries (image l) t size first past) xs (record { fault = 0; count = 0; size = 0 })
     unfolding jump_table_entries

@@ -8,7 +8,7 @@ use Rattle.rules.specs.Image.{Image, contains, section_at}
 use Rattle.rules.specs.Check.{check_image}
 use Rattle.obj.specs.Lent.{lent, given, seen}
 use Rattle.obj.specs.declared.sections.Part.{Part}
-use Rattle.rules.specs.JumpTable.{Entries, sized_entries, unsized_entries, ascending, inside}
+use Rattle.rules.specs.JumpTable.{Entries, sized_entries, unsized_entries, ascending}
 use Rattle.ordered.specs.Part.{Column}
 use Rattle.analysis.specs.declared.Table.{Table}
 use Rattle.analysis.specs.declared.Reading.{Reading}

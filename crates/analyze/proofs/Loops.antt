@@ -113,7 +113,7 @@ module _ (s b p f x n : List ℕ) (a : Around) where
     connects_stop h e o = loop_stop (rules.is_disconnected e) (rules.connect_step e) (rules.passes_left e) (walk_of (bit bits) k v w) (apart_is e ∙ h)
 
 -- one such pass
-module _ (e : steps.Around) (vis vis' : ℕ → Bool) (k v k' v' k'' v'' : List ℕ) (w t r : Walk) (m : Small) (from end : ℕ) (is_Block : block from end ≡ first_disconnected_block (view k v w.small).blocks)
+module _ (e : steps.Around) (vis vis' : ℕ → Bool) (k v k' v' k'' v'' : List ℕ) (w t r : Walk) (m : Small) (from end : ℕ) (is_block : block from end ≡ first_disconnected_block (view k v w.small).blocks)
     (i : lists.Is (ok (discard_possible_block from (view k v w.small))) k k' v' m) (is_t : t ≡ with_small w m) where
   pub pass_behind : Is (rules.run_pass e end (walk_of vis k' v' t)) vis' k'' v'' r → Is (rules.connect_step e (walk_of vis k v w)) vis' k'' v'' r
   unfolding rules.connect_step rules.pass_behind
@@ -121,7 +121,7 @@ module _ (e : steps.Around) (vis vis' : ℕ → Bool) (k v k' v' k'' v'' : List 
     where
       by : rules.run_pass e (first_disconnected_block (walk_of vis k v w).slices.blocks).end (steps.with_slices (walk_of vis k v w) (discard_possible_block (first_disconnected_block (walk_of vis k v w).slices.blocks).start (walk_of vis k v w).slices)) ≡ rules.run_pass e end (walk_of vis k' v' t)
       by =
-          let q : first_disconnected_block (walk_of vis k v w).slices.blocks ≡ block from end = unfold walk_of in sym is_Block in
+          let q : first_disconnected_block (walk_of vis k v w).slices.blocks ≡ block from end = unfold walk_of in sym is_block in
           let c : steps.with_slices (walk_of vis k v w) (discard_possible_block from (walk_of vis k v w).slices) ≡ walk_of vis k' v' t = unfold walk_of in with_lists vis k v k' v' w t m is_t i.pending i.told.same in
           ap (λ (d : Block). rules.run_pass e d.end (steps.with_slices (walk_of vis k v w) (discard_possible_block d.start (walk_of vis k v w).slices))) q ∙ ap (rules.run_pass e end) c
 

@@ -1,19 +1,16 @@
 -- What the tests of a table ensure at each return.
-use mathlib.Core.Path.{◌≡◌, refl, sym, ◌∙◌}
-use mathlib.Core.List.{List, [], ◌∷◌}
-use mathlib.Core.Bool.{Bool, true, false, ◌&&◌, ◌||◌}
-use Prim.Native.Nat.{ℕ, suc, ◌+◌, ◌*◌, ◌/◌, ◌%◌, ◌<◌, ◌≤◌, max}
+use mathlib.Core.Path.{◌≡◌, sym, ◌∙◌}
+use mathlib.Core.List.{List}
+use mathlib.Core.Bool.{Bool, true, false, ◌||◌}
+use Prim.Native.Nat.{ℕ, suc, ◌+◌, ◌<◌, ◌≤◌}
 use native.Mathlib.Numerals.{add-one}
 use native.Mathlib.Omega.{arith}
-use lib.Dec.{ltb, leb}
-use lib.Bits.{bit_or, or_step}
-use native.Mathlib.Decide.{dec_lt, ℕ_discrete as dec_eq}
-use lib.ListN.{length, drop, get_or, drop_of_length-le}
-use borrow.Author.Tests.{eq-eqb, ne_eqb, le-leb, lt-leb, lt-ltb, le-ltb}
-use Rattle.rules.specs.Blocks.{Block, block, apart, first_disconnected_block, is_block, starts_above, is_table}
+use lib.Dec.{ltb}
+use lib.ListN.{length, drop, get_or}
+use borrow.Author.Tests.{eq-eqb, ne_eqb}
+use Rattle.rules.specs.Blocks.{block, apart, first_disconnected_block}
 use Rattle.rules.proofs.Blocks.{none, apart_here, apart_later, apart_never}
 use Rattle.blocks.specs.Table.{rows}
-use lib.Seq.{drop-cons}
 use Rattle.blocks.proofs.Rows.{length_rows, row_at}
 
 -- an `or` whose left side is false

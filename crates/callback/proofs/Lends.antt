@@ -12,7 +12,7 @@ use Rattle.rules.specs.Ordered.{self, Rising}
 use Rattle.rules.specs.Address.{key, address_of, section_of}
 use Rattle.rules.specs.Image as images
 use Rattle.rules.specs.Image.{Image, Section, Outcome, go_on, illegal, unknown, return, jump, jump_table, branches, contains, code_section, code_number, in_code, locate, locate_from, section_at}
-use Rattle.rules.specs.Given as goal
+use Rattle.rules.specs.Given as givens
 use Rattle.rules.specs.Given.{SectionRow, OutcomeRow, image_of}
 use Rattle.rules.specs.Check as rules
 use Rattle.rules.specs.Check.{check, check_image, is_inside}
@@ -63,16 +63,16 @@ table_address (jump_table a n) = a
 table_address (branches l) = 0
 
 module _ (im : Image) where
-  row_inside : (r : OutcomeRow) → rules.is_outcome im r ≡ true → is_table (goal.outcome_of r) ≡ true → is_inside im (table_address (goal.outcome_of r)) ≡ true
+  row_inside : (r : OutcomeRow) → rules.is_outcome im r ≡ true → is_table (givens.outcome_of r) ≡ true → is_inside im (table_address (givens.outcome_of r)) ≡ true
   unfolding if is_table table_address
   row_inside r h t = by (eqb r.kind 0) (eqb r.kind 1) (eqb r.kind 2) (eqb r.kind 3) (eqb r.kind 4) refl (eqb r.kind 5) t (and_right (leb r.kind 6 && leb r.mark 1) _ h)
     where
       by : (x₀ x₁ x₂ x₃ x₄ : Bool) → eqb r.kind 4 ≡ x₄ → (x₅ : Bool) →
-          is_table (if x₀ go_on (if x₁ illegal (if x₂ unknown (if x₃ return (if x₄ (jump r.address) (if x₅ (jump_table r.address r.size) (branches (map goal.branch_of r.branches)))))))) ≡ true →
+          is_table (if x₀ go_on (if x₁ illegal (if x₂ unknown (if x₃ return (if x₄ (jump r.address) (if x₅ (jump_table r.address r.size) (branches (map givens.branch_of r.branches)))))))) ≡ true →
           if x₄ (is_inside im r.address && eqb r.size 0 && eqb (length r.branches) 0)
           (if x₅ (is_inside im r.address && leb r.size 65536 && eqb (length r.branches) 0)
           (eqb r.address 0 && eqb r.size 0 && if (eqb r.kind 6) (leb (length r.branches) 2 && rules.all (rules.is_branch_row im) r.branches) (eqb (length r.branches) 0))) ≡ true →
-          is_inside im (table_address (if x₀ go_on (if x₁ illegal (if x₂ unknown (if x₃ return (if x₄ (jump r.address) (if x₅ (jump_table r.address r.size) (branches (map goal.branch_of r.branches))))))))) ≡ true
+          is_inside im (table_address (if x₀ go_on (if x₁ illegal (if x₂ unknown (if x₃ return (if x₄ (jump r.address) (if x₅ (jump_table r.address r.size) (branches (map givens.branch_of r.branches))))))))) ≡ true
       by true x₁ x₂ x₃ x₄ q x₅ t f = absurd (false≢true t)
       by false true x₂ x₃ x₄ q x₅ t f = absurd (false≢true t)
       by false false true x₃ x₄ q x₅ t f = absurd (false≢true t)
@@ -81,7 +81,7 @@ module _ (im : Image) where
       by false false false false false q true t f = and_left _ _ (and_left _ _ f)
       by false false false false false q false t f = absurd (false≢true t)
 
-  told_inside : (rs : List OutcomeRow) (i : ℕ) → rules.all (rules.is_outcome im) rs ≡ true → is_table (get_or (map goal.told_of rs) i (record { outcome = illegal; mark = false })).outcome ≡ true → is_inside im (table_address (get_or (map goal.told_of rs) i (record { outcome = illegal; mark = false })).outcome) ≡ true
+  told_inside : (rs : List OutcomeRow) (i : ℕ) → rules.all (rules.is_outcome im) rs ≡ true → is_table (get_or (map givens.told_of rs) i (record { outcome = illegal; mark = false })).outcome ≡ true → is_inside im (table_address (get_or (map givens.told_of rs) i (record { outcome = illegal; mark = false })).outcome) ≡ true
   unfolding is_table
   told_inside [] i h t = absurd (false≢true t)
   told_inside (r ∷ rs) zero h t = unfold is_table in row_inside r (and_left _ _ h) t
@@ -117,31 +117,31 @@ locate_low i (s ∷ ss) a h n = by (contains s a) (locate_low (suc i) ss a h (om
     by true f = omega arith
     by false f = f
 
-sections_count : (rs : List SectionRow) (d : List ℕ) → length (goal.sections_of rs d) ≡ length rs
+sections_count : (rs : List SectionRow) (d : List ℕ) → length (givens.sections_of rs d) ≡ length rs
 sections_count [] d = refl
 sections_count (r ∷ rs) d = ap suc (sections_count rs (drop r.given d))
 
 -- ---- the code section is small
 
-code_small : (i : ℕ) (rs : List SectionRow) (d : List ℕ) → rules.all rules.code_fits rs ≡ true → (get_or (goal.sections_of rs d) (images.code_from i (goal.sections_of rs d) - i) images.no_section).size ≤ 262144
+code_small : (i : ℕ) (rs : List SectionRow) (d : List ℕ) → rules.all rules.code_fits rs ≡ true → (get_or (givens.sections_of rs d) (images.code_from i (givens.sections_of rs d) - i) images.no_section).size ≤ 262144
 unfolding if
 code_small i [] d h = nothing (images.code_from i [] - i)
   where
     nothing : (n : ℕ) → (get_or [] n images.no_section).size ≤ 262144
     nothing zero = omega arith
     nothing (suc n) = omega arith
-code_small i (r ∷ rs) d h = by (eqb r.kind 1) (eqb r.kind 2) (eqb r.kind 3) (and_left _ _ h) (code_small (suc i) rs (drop r.given d) (and_right (rules.code_fits r) _ h)) (code_from_low (suc i) (goal.sections_of rs (drop r.given d)))
+code_small i (r ∷ rs) d h = by (eqb r.kind 1) (eqb r.kind 2) (eqb r.kind 3) (and_left _ _ h) (code_small (suc i) rs (drop r.given d) (and_right (rules.code_fits r) _ h)) (code_from_low (suc i) (givens.sections_of rs (drop r.given d)))
   where
     later : List Section
-    later = goal.sections_of rs (drop r.given d)
+    later = givens.sections_of rs (drop r.given d)
 
-    by : (x y z : Bool) → (not x || leb r.size 262144) ≡ true → (get_or (goal.sections_of rs (drop r.given d)) (images.code_from (suc i) (goal.sections_of rs (drop r.given d)) - suc i) images.no_section).size ≤ 262144 →
-        suc i ≤ images.code_from (suc i) (goal.sections_of rs (drop r.given d)) →
-        (get_or (goal.sections_of (r ∷ rs) d) (if (images.is_code (if x images.code (if y images.written (if z images.read_only_lem images.bss)))) i (images.code_from (suc i) (goal.sections_of rs (drop r.given d))) - i) images.no_section).size ≤ 262144
+    by : (x y z : Bool) → (not x || leb r.size 262144) ≡ true → (get_or (givens.sections_of rs (drop r.given d)) (images.code_from (suc i) (givens.sections_of rs (drop r.given d)) - suc i) images.no_section).size ≤ 262144 →
+        suc i ≤ images.code_from (suc i) (givens.sections_of rs (drop r.given d)) →
+        (get_or (givens.sections_of (r ∷ rs) d) (if (images.is_code (if x images.code (if y images.written (if z images.read_only images.bss)))) i (images.code_from (suc i) (givens.sections_of rs (drop r.given d))) - i) images.no_section).size ≤ 262144
     by true y z h f l = let e : i - i ≡ 0 = omega arith in rw e (leb-true _ _ h)
-    by false true z h f l = let e : images.code_from (suc i) (goal.sections_of rs (drop r.given d)) - i ≡ suc (images.code_from (suc i) (goal.sections_of rs (drop r.given d)) - suc i) = omega arith in rw e f
-    by false false true h f l = let e : images.code_from (suc i) (goal.sections_of rs (drop r.given d)) - i ≡ suc (images.code_from (suc i) (goal.sections_of rs (drop r.given d)) - suc i) = omega arith in rw e f
-    by false false false h f l = let e : images.code_from (suc i) (goal.sections_of rs (drop r.given d)) - i ≡ suc (images.code_from (suc i) (goal.sections_of rs (drop r.given d)) - suc i) = omega arith in rw e f
+    by false true z h f l = let e : images.code_from (suc i) (givens.sections_of rs (drop r.given d)) - i ≡ suc (images.code_from (suc i) (givens.sections_of rs (drop r.given d)) - suc i) = omega arith in rw e f
+    by false false true h f l = let e : images.code_from (suc i) (givens.sections_of rs (drop r.given d)) - i ≡ suc (images.code_from (suc i) (givens.sections_of rs (drop r.given d)) - suc i) = omega arith in rw e f
+    by false false false h f l = let e : images.code_from (suc i) (givens.sections_of rs (drop r.given d)) - i ≡ suc (images.code_from (suc i) (givens.sections_of rs (drop r.given d)) - suc i) = omega arith in rw e f
 
 -- ---- a checked image
 
@@ -240,8 +240,8 @@ module _ (s : List ℕ) (few : Few s) (a t : ℕ) (small : a < 0x1_0000_0000) (i
   unfolding locate image_of lents.given
   located_low =
       let r : List SectionRow = rows 4 section_row s in
-      let n : length (goal.sections_of r []) ≡ length r = sections_count r [] in
-      rw here (locate_low 1 (goal.sections_of r []) a small (omega (arith, n, rows_length 4 (omega arith) section_row s, few.few)))
+      let n : length (givens.sections_of r []) ≡ length r = sections_count r [] in
+      rw here (locate_low 1 (givens.sections_of r []) a small (omega (arith, n, rows_length 4 (omega arith) section_row s, few.few)))
 
   pub located_in : is_inside (seen s) a ≡ true → tables.AtTable s t
   unfolding locate section_at

@@ -9,7 +9,7 @@ use borrow.Author.Tests.{eq-eqb, ne_eqb}
 use Rattle.rules.specs.Choice.{if, if_true, if_false, Answer, ok, fault, ◌>>=◌}
 use Rattle.rules.specs.Address.{key}
 use Rattle.rules.specs.Image as images
-use Rattle.rules.specs.Given as goal
+use Rattle.rules.specs.Given as givens
 use Rattle.rules.specs.Known.{Entry}
 use Rattle.rules.specs.Map as rules
 use Rattle.rules.proofs.Faults.{add_symbol_met, add_symbols_met}
@@ -45,21 +45,21 @@ pub end_none : (known k size : ℕ) → (known ≡ 1 → ⊥) → 0 ≡ if (eqb 
 end_none known k size h = sym (if_false (ne_eqb known 1 h) (k + size) 0)
 
 module _ (l : Lent) (c : Code) (q : IsCode l c) (s : Symbol) (k end : ℕ) (is_k : k ≡ c.number * 0x1_0000_0000 + s.address) (is_end : end ≡ if (eqb s.known 1) (k + s.size) 0) where
-  pub symbol_told : (cap : rules.Capacity) (es : List Entry) (n : ℕ) (known infos lists : List ℕ) (x : ℕ) → Told (end_set cap k end es) n known infos lists x → Entered (rules.add_symbol (image l) cap (goal.symbol_of (symbol_of s)) es) n known infos lists x
+  pub symbol_told : (cap : rules.Capacity) (es : List Entry) (n : ℕ) (known infos lists : List ℕ) (x : ℕ) → Told (end_set cap k end es) n known infos lists x → Entered (rules.add_symbol (image l) cap (givens.symbol_of (symbol_of s)) es) n known infos lists x
   symbol_told cap es n known infos lists x t =
       let j : k ≡ key (images.code_number (image l)) s.address = is_k ∙ ap (λ (n : ℕ). n * 0x1_0000_0000 + s.address) q.number in
-      let e : end_set cap k end es ≡ rules.add_symbol (image l) cap (goal.symbol_of (symbol_of s)) es =
-      ap (λ (x : ℕ). end_set cap k x es) is_end ∙ ap (λ (x : ℕ). end_set cap x (if (eqb s.known 1) (x + s.size) 0) es) j ∙ sym (symbol_is (image l) cap (goal.symbol_of (symbol_of s)) es) in
+      let e : end_set cap k end es ≡ rules.add_symbol (image l) cap (givens.symbol_of (symbol_of s)) es =
+      ap (λ (x : ℕ). end_set cap k x es) is_end ∙ ap (λ (x : ℕ). end_set cap x (if (eqb s.known 1) (x + s.size) 0) es) j ∙ sym (symbol_is (image l) cap (givens.symbol_of (symbol_of s)) es) in
       rw (sym e) (record { told = t })
 
 -- ---- all of them
 
 abbrev left : List ℕ → ℕ → List images.Symbol
-left f at = map goal.symbol_of (rows 3 symbol_row (drop at f))
+left f at = map givens.symbol_of (rows 3 symbol_row (drop at f))
 
 all_are : (l : Lent) (f : List ℕ) → l.functions ≡ f → left f 0 ≡ (image l).functions
-unfolding goal.image_of lents.given
-all_are l f e = ap (λ (x : List ℕ). map goal.symbol_of (rows 3 symbol_row x)) (sym e)
+unfolding givens.image_of lents.given
+all_are l f e = ap (λ (x : List ℕ). map givens.symbol_of (rows 3 symbol_row x)) (sym e)
 
 module _ (f : List ℕ) (c : Code) (room : ℕ) (lists : List ℕ) where
   abbrev whole : Lent → Answer (List Entry)
@@ -93,7 +93,7 @@ module _ (f : List ℕ) (c : Code) (room : ℕ) (lists : List ℕ) where
     pub adding_ends : length f ≤ at → (l : Lent) → Lists l f c → Entered (rules.add_symbols (image l) (capacity room lists) (image l).functions []) n known infos lists x
     adding_ends h l q =
         let w : Now l at n known infos = a.now l q in
-        let z : left f at ≡ [] = ap (map goal.symbol_of) (row_end 3 (omega arith) symbol_row f at h) in
+        let z : left f at ≡ [] = ap (map givens.symbol_of) (row_end 3 (omega arith) symbol_row f at h) in
         let s : whole l ≡ ok w.entries = sym w.same ∙ ap (λ (y : List images.Symbol). rules.add_symbols (image l) (capacity room lists) y w.entries) z in
         rw s (record { told = (w.holds, a.fine) })
 
@@ -102,26 +102,26 @@ module _ (f : List ℕ) (c : Code) (room : ℕ) (lists : List ℕ) where
     adding_inside h e = omega (arith, a.rows)
 
     module _ (less : at < length f) (even : length f % 3 ≡ 0) (s : Symbol) (is_s : rows 3 symbol_row (drop at f) ≡ symbol_of s ∷ rows 3 symbol_row (drop (at + 3) f)) (n' : ℕ) (known' infos' : List ℕ) (x' : ℕ)
-        (made : (l : Lent) (es : List Entry) → IsCode l c → Holds n known infos lists es → Entered (rules.add_symbol (image l) (capacity room lists) (goal.symbol_of (symbol_of s)) es) n' known' infos' lists x') where
-      first : (l : Lent) (w : Now l at n known infos) → whole l ≡ (rules.add_symbol (image l) (capacity room lists) (goal.symbol_of (symbol_of s)) w.entries >>= rules.add_symbols (image l) (capacity room lists) (left f (at + 3)))
-      first l w = sym w.same ∙ ap (λ (y : List goal.SymbolRow). rules.add_symbols (image l) (capacity room lists) (map goal.symbol_of y) w.entries) is_s
+        (made : (l : Lent) (es : List Entry) → IsCode l c → Holds n known infos lists es → Entered (rules.add_symbol (image l) (capacity room lists) (givens.symbol_of (symbol_of s)) es) n' known' infos' lists x') where
+      first : (l : Lent) (w : Now l at n known infos) → whole l ≡ (rules.add_symbol (image l) (capacity room lists) (givens.symbol_of (symbol_of s)) w.entries >>= rules.add_symbols (image l) (capacity room lists) (left f (at + 3)))
+      first l w = sym w.same ∙ ap (λ (y : List givens.SymbolRow). rules.add_symbols (image l) (capacity room lists) (map givens.symbol_of y) w.entries) is_s
 
       pub adding_stops : (x' ≡ 0 → ⊥) → (l : Lent) → Lists l f c → Entered (rules.add_symbols (image l) (capacity room lists) (image l).functions []) n' known' infos' lists x'
       unfolding ◌>>=◌
       adding_stops z l q =
           let w : Now l at n known infos = a.now l q in
-          let e : rules.add_symbol (image l) (capacity room lists) (goal.symbol_of (symbol_of s)) w.entries ≡ fault x' = lost n' known' infos' lists x' _ (made l w.entries q.code w.holds).told z in
+          let e : rules.add_symbol (image l) (capacity room lists) (givens.symbol_of (symbol_of s)) w.entries ≡ fault x' = lost n' known' infos' lists x' _ (made l w.entries q.code w.holds).told z in
           let t : whole l ≡ fault x' = first l w ∙ ap (λ (y : Answer (List Entry)). y >>= rules.add_symbols (image l) (capacity room lists) (left f (at + 3))) e in
           rw t (record { told = refl })
 
-      went : (l : Lent) → Lists l f c → x' ≡ 0 → (es : List Entry) → Holds n known infos lists es → Gone (rules.add_symbol (image l) (capacity room lists) (goal.symbol_of (symbol_of s)) es) n' known' infos' lists
+      went : (l : Lent) → Lists l f c → x' ≡ 0 → (es : List Entry) → Holds n known infos lists es → Gone (rules.add_symbol (image l) (capacity room lists) (givens.symbol_of (symbol_of s)) es) n' known' infos' lists
       went l q z es h = gone n' known' infos' lists x' _ (add_symbol_met (image l) (capacity room lists) _ es) (made l es q.code h).told z
 
       next_now : x' ≡ 0 → (l : Lent) → Lists l f c → Now l (at + 3) n' known' infos'
       unfolding ◌>>=◌
       next_now z l q =
           let w : Now l at n known infos = a.now l q in
-          let g : Gone (rules.add_symbol (image l) (capacity room lists) (goal.symbol_of (symbol_of s)) w.entries) n' known' infos' lists = went l q z w.entries w.holds in
+          let g : Gone (rules.add_symbol (image l) (capacity room lists) (givens.symbol_of (symbol_of s)) w.entries) n' known' infos' lists = went l q z w.entries w.holds in
           let t : whole l ≡ rules.add_symbols (image l) (capacity room lists) (left f (at + 3)) g.entries = first l w ∙ ap (λ (y : Answer (List Entry)). y >>= rules.add_symbols (image l) (capacity room lists) (left f (at + 3))) g.is in
           record { entries = g.entries; holds = g.holds; same = sym t }
 

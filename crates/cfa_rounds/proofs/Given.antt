@@ -9,7 +9,7 @@ use borrow.Author.Tests.{eq-eqb, ne_eqb}
 use Rattle.rules.specs.Choice.{if_true, if_false, Answer, ok, ◌>>=◌}
 use Rattle.rules.specs.Loop.{bind_fails}
 use Rattle.rules.specs.Image as images
-use Rattle.rules.specs.Given as goal
+use Rattle.rules.specs.Given as givens
 use Rattle.rules.specs.Known.{Entry, entry_of, new_entry, end_of_entry}
 use Rattle.rules.specs.Map as rules
 use Rattle.rules.proofs.Binds.{bind_assoc, bind_cong, bind_ok}
@@ -107,12 +107,12 @@ module _ (l : Lent) (s b o f x sk : List ℕ) (c : Code) (q : Displays l s b o f
   -- ---- the entry point
 
   module _ (e : List ℕ) (p : l.entry ≡ e) (cap : rules.Capacity) (es : List Entry) where
-    point_is : (image l).entry ≡ goal.entry_of (images.code_number (image l)) e
-    unfolding goal.image_of lents.given images.code_number
-    point_is = ap (λ (y : List ℕ). goal.entry_of (images.code_number (image l)) y) p
+    point_is : (image l).entry ≡ givens.entry_of (images.code_number (image l)) e
+    unfolding givens.image_of lents.given images.code_number
+    point_is = ap (λ (y : List ℕ). givens.entry_of (images.code_number (image l)) y) p
 
     -- walked by itself
-    alone : (e : List ℕ) → ((image l).entry ≡ goal.entry_of (images.code_number (image l)) e) → (es : List Entry) → rules.process_each (image l) cap (point c e) es ≡ rules.process_entry_point (image l) cap es
+    alone : (e : List ℕ) → ((image l).entry ≡ givens.entry_of (images.code_number (image l)) e) → (es : List Entry) → rules.process_each (image l) cap (point c e) es ≡ rules.process_entry_point (image l) cap es
     unfolding rules.process_entry_point
     alone [] i es = sym (if_true (eq-eqb (image l).entry 0 i) (ok es) (rules.process_function_at (image l) cap (image l).entry es))
     alone (a ∷ e) i es =

@@ -7,13 +7,13 @@ use native.Mathlib.Omega.{arith}
 use lib.Dec.{leb, eqb}
 use lib.ListN.{length, take}
 use lib.Seq.{length-take-le}
-use borrow.Author.Tests.{leb-true, leb-false, eqb-true, eqb-false, eq-eqb, le-leb}
-use Rattle.rules.specs.Choice.{if, if_true, if_false}
+use borrow.Author.Tests.{leb-false, eqb-false, le-leb}
+use Rattle.rules.specs.Choice.{if_true, if_false}
 use Rattle.rules.specs.Image.{Image, code_words}
 use Rattle.rules.specs.Check as rules
 use Rattle.rules.proofs.Tests.{and_left, and_right, and_both}
 use Rattle.rules.proofs.Passes.{passed_of}
-use Rattle.obj.specs.Lent.{lent, rows, outcome_row, symbol_row, skip_row, given, image}
+use Rattle.obj.specs.Lent.{lent, rows, outcome_row, symbol_row, skip_row, given}
 use Rattle.obj_rows.proofs.SymbolRows.{more_entries}
 use Rattle.obj_image.proofs.CheckImage.{few_of}
 use Rattle.obj_image.proofs.Rows.{whole_of}

@@ -8,7 +8,7 @@ use native.Mathlib.Nat.{mul-le-mul}
 use lib.Dec.{leb, eqb}
 use lib.ListN.{length, take, drop, get_or}
 use borrow.Author.Tests.{leb-true, leb-false, eqb-true, eqb-false, le-leb, lt-leb, eq-eqb, ne_eqb}
-use Rattle.rules.specs.Choice.{if, if_true, if_false}
+use Rattle.rules.specs.Choice.{if_true, if_false}
 use Rattle.image.specs.Lists.{KIND, READING, SECTIONS, ENTRY, RELOCATIONS, HEADER, head, part, inside, sections_of, entry_of}
 
 -- so many rows of up to six numbers

@@ -2,18 +2,17 @@
 use mathlib.Core.Path.{◌≡◌, refl, sym, ap, ◌∙◌}
 use mathlib.Core.List.{List, [], ◌∷◌, map}
 use mathlib.Core.Bool.{Bool, true, false, false≢true, ◌&&◌, ◌||◌}
-use Prim.Native.Nat.{ℕ, suc, ◌+◌, ◌≤◌, ◌<◌}
+use Prim.Native.Nat.{ℕ, suc, ◌≤◌, ◌<◌}
 use native.Mathlib.Omega.{arith}
 use lib.Dec.{ltb, leb, eqb}
-use lib.ListN.{length, take, drop, length-take, length-drop}
+use lib.ListN.{length, take, drop, length-drop}
 use lib.Seq.{length-take-le}
-use borrow.Author.Tests.{lt-ltb, le-ltb, ltb-true, ltb-false, eqb-true, eq-eqb, ne_eqb}
-use Rattle.rules.specs.Choice.{if, by_if, if_true, if_false, any}
-use Rattle.rules.specs.Loop.{cases}
-use Rattle.rules.specs.Ordered.{self, has, lower, Rising, Above}
+use borrow.Author.Tests.{lt-ltb, le-ltb, ltb-true, ltb-false, eqb-true, eq-eqb}
+use Rattle.rules.specs.Choice.{if, if_true, if_false, any}
+use Rattle.rules.specs.Ordered.{has, lower, Rising, Above}
 use Rattle.rules.specs.Blocks.{Block, block, start_of, below}
 use Rattle.rules.specs.Known.{Entry, entry_of, new_entry, covers, covering, any_between}
-use Rattle.blocks.specs.Table.{rows, Table}
+use Rattle.blocks.specs.Table.{Table}
 use Rattle.blocks.proofs.Rows.{keys}
 use Rattle.known.specs.Table.{known_rows, as_block, Kept, Knows, ENTRIES, AT_ENDS}
 

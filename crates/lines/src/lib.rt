@@ -14,7 +14,6 @@
 // bytes by `!`.
 #![tactic(auto)]
 
-
 // Where the next byte stands: at a line's start, among the line's numbers, in the count behind `*`, in a remark, behind `=`, or in
 // a line that is not of the format.
 const START: u32 = 0;

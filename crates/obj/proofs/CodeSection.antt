@@ -44,7 +44,7 @@ kind_is : (k : ℕ) → is_code (kind_of k) ≡ eqb k 1
 unfolding if
 kind_is k = by (eqb k 1) (eqb k 2) (eqb k 3)
   where
-    by : (a b c : Bool) → is_code (if a images.code (if b images.written (if c images.read_only_lem images.bss))) ≡ a
+    by : (a b c : Bool) → is_code (if a images.code (if b images.written (if c images.read_only images.bss))) ≡ a
     by true b c = refl
     by false true c = refl
     by false false true = refl

@@ -1,29 +1,26 @@
 -- The last function symbol below an address. Assumes nothing.
-use Prim.Native.Nat.{ℕ, zero, suc, ◌+◌, ◌*◌, ◌-◌, ◌/◌, ◌%◌, ◌≤◌, ◌<◌}
+use Prim.Native.Nat.{ℕ, zero, suc, ◌+◌, ◌*◌, ◌-◌, ◌/◌, ◌≤◌, ◌<◌}
 use mathlib.Core.Path.{◌≡◌, refl, sym, ap, ◌∙◌}
 use mathlib.Core.Bool.{Bool, true, false}
 use mathlib.Core.List.{List, [], ◌∷◌, map}
 use native.Mathlib.Omega.{arith}
 use lib.Dec.{ltb, eqb}
-use lib.ListN.{length, take, drop, get_or, length-map}
-use lib.Seq.{take_all}
+use lib.ListN.{drop}
 use borrow.Author.Tests.{eq-eqb, ne_eqb, lt-ltb, le-ltb}
 use Rattle.rules.specs.Choice.{if, if_true, if_false}
 use Rattle.rules.specs.Address.{key, address_of, section_of}
-use Rattle.rules.specs.Ordered.{self, rank, Rising}
+use Rattle.rules.specs.Ordered.{self, rank}
 use Rattle.rules.specs.Image as images
 use Rattle.rules.specs.Given.{SymbolRow, image_of}
 use Rattle.rules.specs.Given as givens
 use Rattle.rules.specs.Step.{Around, lower_symbol, symbol_over}
 use Rattle.rules.proofs.Ordered.{rank_keys}
-use Rattle.ordered.proofs.Arrays.{Halved, halved_up, halved_down, halved_end}
 use Rattle.obj_image.specs.Lent.{Lent, rows, symbol_row, given, image}
 use Rattle.obj.specs.Sections.{IsCode}
 use Rattle.obj_rows.specs.Symbols.{symbol_of, addresses}
 use Rattle.obj.specs.declared.sections.Code.{Code}
 use Rattle.obj_rows.specs.declared.symbols.Symbol.{Symbol}
-use Rattle.obj_image.proofs.Rows.{rows_count, rows_drop, getD_mapped}
-use Rattle.obj_rows.proofs.SymbolRows.{symbol_here}
+use Rattle.obj_image.proofs.Rows.{rows_drop}
 pub use Rattle.obj_rows.proofs.Halving.{own_address, below_up, below_down, below_end}
 
 -- ---- the last symbol below an address

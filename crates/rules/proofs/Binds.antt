@@ -1,5 +1,4 @@
 -- Answers one after the other.
-use Prim.Native.Nat.{ℕ}
 use mathlib.Core.Path.{◌≡◌, refl, sym, subst}
 use Rattle.rules.specs.Choice.{Answer, ok, fault, ◌>>=◌}
 use Rattle.rules.specs.Loop.{Holds, good, of_good}

@@ -9,7 +9,7 @@ use native.Mathlib.Omega.{arith}
 use borrow.Author.Tests.{eqb-true, eqb-false}
 use Rattle.rules.specs.Choice.{by_if, any, Answer, ok, fault, ◌>>=◌}
 use Rattle.rules.specs.Loop.{Holds, good, none, holds_at, bind_holds, map_holds, if_holds, both, trivial, loop_keeps}
-use Rattle.rules.specs.Ordered.{put, upper, first, empty, Rising}
+use Rattle.rules.specs.Ordered.{put, upper, empty, Rising}
 use Rattle.rules.specs.Address.{key, section_of}
 use Rattle.rules.specs.Image
 use Rattle.rules.specs.Image.{Symbol}

@@ -1,7 +1,7 @@
 -- Short forms to write an image down.
 use Prim.Native.Nat.{ℕ, ◌/◌, ◌%◌}
 use mathlib.Core.List.{List, [], ◌∷◌}
-use Rattle.rules.specs.Given.{Given, SectionRow, BranchRow, OutcomeRow, SymbolRow}
+use Rattle.rules.specs.Given.{SectionRow, BranchRow, OutcomeRow, SymbolRow}
 use Rattle.rules.specs.Image.{Range}
 
 -- the bytes of words

@@ -1,5 +1,5 @@
 -- Where no nonzero word is illegal: no closed block holds a start but its own.
-use Prim.Native.Nat.{ℕ, zero, ◌+◌, ◌-◌, ◌%◌, ◌≤◌, ◌<◌}
+use Prim.Native.Nat.{ℕ, ◌+◌, ◌-◌, ◌%◌, ◌≤◌, ◌<◌}
 use mathlib.Core.Path.{◌≡◌, refl, sym, ◌∙◌, ap, subst}
 use mathlib.Core.Bool.{Bool, true, false, false≢true, not, ◌||◌}
 use mathlib.Core.List.{List, [], ◌∷◌}
@@ -10,7 +10,7 @@ use borrow.Author.Tests.{leb-true, leb-false, ltb-true, ltb-false, eqb-true, eqb
 use Rattle.rules.specs.Choice.{if, by_if, if_true, if_false}
 use Rattle.rules.specs.Loop.{Holds, good, none, bind_holds, map_holds, if_holds, both, loop_keeps, run_keeps}
 use Rattle.rules.specs.Ordered.{put, has, lower, last, empty, Rising, Above}
-use Rattle.rules.specs.Address.{key, address_of, section_of}
+use Rattle.rules.specs.Address.{address_of, section_of}
 use Rattle.rules.specs.Image
 use Rattle.rules.specs.Image.{illegal}
 use Rattle.rules.specs.Blocks
@@ -31,7 +31,7 @@ use Rattle.rules.proofs.Tidy
 use Rattle.rules.proofs.Tidy.{Proper, open_one, closed, TidyBlocks, mark_tidy, Aligned, Names, Framed, Word, Tidy, tidy_laws, restarts_tidy, apart_holds}
 use Rattle.rules.proofs.Starts.{among_mark, mark_among}
 use Rattle.rules.proofs.Rows.{all_without, All, all_map, all_zip, all_of, all_swap, all_put, lower_holds, last_holds, Among, among_put, among_last, all_above}
-use Rattle.rules.proofs.Tests.{and_left, and_right, or_right}
+use Rattle.rules.proofs.Tests.{and_left, and_right}
 
 -- ---- lists
 

@@ -10,7 +10,7 @@ use lib.Dec.{ltb, leb, eqb}
 use borrow.Author.Tests.{leb-true, leb-false, ltb-true, ltb-false, eqb-true, eqb-false, not-false, le-leb, lt-ltb, eq-eqb, ne_eqb}
 use Rattle.rules.specs.Choice.{if, by_if, if_true, any}
 use Rattle.rules.specs.Loop.{Holds, good, none, bind_holds, if_holds, both, run, run_keeps}
-use Rattle.rules.specs.Ordered.{self, has, first, Rising, Above}
+use Rattle.rules.specs.Ordered.{self, first, Rising, Above}
 use Rattle.rules.specs.Address.{key, address_of}
 use Rattle.rules.specs.Image
 use Rattle.rules.specs.Image.{Range}

@@ -1,5 +1,5 @@
 -- Checks 1 to 3: document 01, "The image", one test for each sentence there, in its order. (docs/RULES.md has document 01's rules.)
-use Rattle.std.specs.Prelude.{ℕ, suc, ◌+◌, ◌*◌, ◌/◌, ◌%◌, Bool, true, false, ◌&&◌, ◌||◌, not, List, [], ◌∷◌, map, ltb, leb, eqb, length}
+use Rattle.std.specs.Prelude.{ℕ, suc, ◌+◌, Bool, true, ◌&&◌, ◌||◌, not, List, [], ◌∷◌, ltb, leb, eqb, length}
 use Rattle.rules.specs.Choice.{if, any}
 use Rattle.rules.specs.Address.{section_of}
 use Rattle.rules.specs.Image

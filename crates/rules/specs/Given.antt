@@ -3,11 +3,11 @@ use Rattle.std.specs.Prelude.{ℕ, List, [], ◌∷◌, map, eqb, take, drop}
 use Rattle.rules.specs.Choice.{if}
 use Rattle.rules.specs.Address.{key}
 use Rattle.rules.specs.Bytes.{words_in}
-use Rattle.rules.specs.Image.{Kind, code, written, read_only_lem, bss, Section, To, to_address, to_table, elsewhere, Branch, Outcome, go_on, illegal, unknown, return, jump, jump_table, branches, Told, Symbol, Range, Image, code_from}
+use Rattle.rules.specs.Image.{Kind, code, written, read_only, bss, Section, To, to_address, to_table, elsewhere, Branch, Outcome, go_on, illegal, unknown, return, jump, jump_table, branches, Told, Symbol, Range, Image, code_from}
 
 -- a section
 pub record SectionRow : Type 0 where
-  -- 1 code, 2 data, 3 read_only_lem, 4 bss
+  -- 1 code, 2 data, 3 read-only, 4 bss
   pub kind : ℕ
   pub base : ℕ
   pub size : ℕ
@@ -58,7 +58,7 @@ pub record Given : Type 0 where
 
 -- a section's kind by its number
 abbrev pub kind_of : ℕ → Kind
-kind_of k = if (eqb k 1) code (if (eqb k 2) written (if (eqb k 3) read_only_lem bss))
+kind_of k = if (eqb k 1) code (if (eqb k 2) written (if (eqb k 3) read_only bss))
 
 -- a section with its bytes, as words
 abbrev pub section_of_row : SectionRow → List ℕ → Section

@@ -1,5 +1,5 @@
 -- One run, whole: what is handed in is checked, then walked to its map.
-use Rattle.std.specs.Prelude.{ℕ, Bool, List, eqb}
+use Rattle.std.specs.Prelude.{ℕ, List, eqb}
 use Rattle.rules.specs.Choice.{if, Answer, ok, fault}
 use Rattle.rules.specs.Given.{Given, image_of}
 use Rattle.rules.specs.Check.{check}

@@ -1,15 +1,13 @@
 -- What each function of the crate needs and ensures, from what is known where it calls or returns.
 use mathlib.Core.Path.{◌≡◌, refl, ap, ap₂, sym, ◌∙◌}
 use mathlib.Core.List.{List, ◌++◌, append-nil}
-use mathlib.Core.Bool.{Bool, true, false}
+use mathlib.Core.Bool.{true, false}
 use Prim.Native.Nat.{ℕ, ◌+◌, ◌-◌, ◌*◌, ◌<◌, ◌≤◌}
-use native.Mathlib.Nat.{zero-add}
 use native.Mathlib.Omega.{arith}
-use lib.Dec.{leb}
-use lib.ListN.{length, take, drop, length-append, replicate, length-replicate, drop_of_length-le}
+use lib.ListN.{length, take, length-append, replicate, length-replicate, drop_of_length-le}
 use lib.Seq.{paste, length-take-le, take_all}
 use borrow.Author.Tests.{le-leb, lt-leb}
-use Rattle.rules.specs.Choice.{if, if_true, if_false}
+use Rattle.rules.specs.Choice.{if_true, if_false}
 use Rattle.rules.specs.Slices.{Slices}
 use Rattle.rules.specs.OneFunction.{numbers}
 use Rattle.function_slices.specs.View.{part, view, Fit}

@@ -8,8 +8,8 @@ use lib.ListN.{length, take, length-append}
 use lib.Seq.{length-take-le}
 use borrow.Author.Tests.{eqb-true}
 use Rattle.rules.specs.Choice.{by_if}
-use Rattle.rules.specs.Blocks.{Block, block, start_of}
-use Rattle.rules.specs.Slices.{Branches, Table, own_address}
+use Rattle.rules.specs.Blocks.{block, start_of}
+use Rattle.rules.specs.Slices.{Branches, own_address}
 use Rattle.rules.specs.OneFunction.{end_of, size_of, way_froms, way_tos}
 use Rattle.ordered.specs.Columns.{join}
 use Rattle.ordered.proofs.Columns.{rows_keys, rows_values}

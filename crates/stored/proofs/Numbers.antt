@@ -4,8 +4,8 @@ use mathlib.Core.List.{List, [], ◌∷◌, ◌++◌, map, append_assoc}
 use Prim.Native.Nat.{ℕ, ◌+◌, ◌*◌}
 use native.Mathlib.Omega.{arith}
 use lib.ListN.{length, length-append, length-map}
-use Rattle.rules.specs.Blocks.{Block, start_of}
-use Rattle.rules.specs.Slices.{Slices, Branches, Table, own_address, count_branches}
+use Rattle.rules.specs.Blocks.{start_of}
+use Rattle.rules.specs.Slices.{Slices, Branches, own_address, count_branches}
 use Rattle.rules.specs.OneFunction.{end_of, size_of, way_froms, way_tos, numbers}
 use Rattle.rules.specs.Map.{Capacity, numbers_of}
 use Rattle.stored.specs.Laid.{flow, others}

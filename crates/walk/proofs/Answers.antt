@@ -1,14 +1,14 @@
 -- The answer that a state of the walk stands for, and what changes of the lists make of it.
 use mathlib.Core.Path.{◌≡◌, refl, sym, ap, ◌∙◌}
-use mathlib.Core.List.{List, [], ◌∷◌}
+use mathlib.Core.List.{List}
 use mathlib.Core.Bool.{Bool, true, false, false≢true}
-use Prim.Native.Nat.{ℕ, ◌≤◌, ◌<◌, ◌+◌}
+use Prim.Native.Nat.{ℕ, ◌<◌, ◌+◌}
 use native.Mathlib.Omega.{arith}
 use lib.Dec.{eqb}
 use lib.ListN.{take, drop, length}
-use borrow.Author.Tests.{eq-eqb, ne_eqb, eqb-true}
-use Rattle.rules.specs.Choice.{if, if_true, if_false, Answer, ok, fault, ◌>>=◌, limited}
-use Rattle.rules.specs.Loop.{cases, Fails, number, result}
+use borrow.Author.Tests.{eq-eqb, ne_eqb}
+use Rattle.rules.specs.Choice.{if, if_true, if_false, Answer, ok, fault, ◌>>=◌}
+use Rattle.rules.specs.Loop.{cases, number}
 use Rattle.rules.specs.Slices.{Slices, add_block_start, set_block}
 use Rattle.rules.specs.Blocks.{is_new}
 use Rattle.rules.specs.Step as rules

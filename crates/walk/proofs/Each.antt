@@ -1,8 +1,8 @@
 -- A change for each element of a list, up to the first fault: `mark_and_push_all` and `add_all_possible_blocks`.
-use mathlib.Core.Path.{◌≡◌, refl, sym, ap, ◌∙◌}
+use mathlib.Core.Path.{◌≡◌, refl, ap, ◌∙◌}
 use mathlib.Core.List.{List, [], ◌∷◌}
 use mathlib.Core.Bool.{Bool, false}
-use Prim.Native.Nat.{ℕ, suc, ◌+◌, ◌≤◌, ◌<◌}
+use Prim.Native.Nat.{ℕ, ◌+◌, ◌≤◌, ◌<◌}
 use native.Mathlib.Numerals.{add-one}
 use native.Mathlib.Omega.{arith}
 use lib.ListN.{take, drop, length, get_or, drop_of_length-le}
@@ -10,7 +10,7 @@ use lib.Seq.{drop-cons, get_or-take, length-take-le}
 use Rattle.rules.specs.Choice.{Answer, ok, fault, ◌>>=◌}
 use Rattle.rules.specs.Slices.{Slices, add_possible_block, add_all_possible_blocks}
 use Rattle.rules.specs.Step as rules
-use Rattle.walk.specs.State.{walk_of, Fits, Going, Is}
+use Rattle.walk.specs.State.{walk_of, Going, Is}
 use Rattle.walk.specs.declared.Walk.{Walk}
 use Rattle.walk.proofs.Answers.{stopped, goes_on, is_ok}
 

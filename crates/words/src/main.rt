@@ -2,7 +2,6 @@
 // what the walk takes it for. A line that is no word prints '?'.
 #![tactic(auto)]
 
-
 // A line to be printed.
 #[derive(Clone, Copy)]
 struct Out {

@@ -1,5 +1,4 @@
 use mathlib.Core.Path.{refl}
-use borrow.Author.Rules.{rules}
 use Rattle.analysis.proofs.located.Goals as goal
 
 -- `analysis::located` is `locate` of `rules`, where the sections alone are seen. Assumes nothing.

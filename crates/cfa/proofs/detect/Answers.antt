@@ -9,8 +9,10 @@ pub returns-then-r-ne0 : goal.returns-then-r-ne0
 returns-then-r-ne0 c = λ l q e. given_fails (image l) _ _ _ _ _ _ (c.walk_given-r.ensures l q e) c.if-r-ne0.true
 
 pub finish_rounds-requires : goal.finish_rounds-requires
-finish_rounds-requires c = record { ready = let g = c.requires.image in
-    given_ready _ _ _ _ _ _ _ _ g.lent g.displays _ _ _ _ _ (c.walk_given-r.ensures g.lent g.displays g.entry) c.if-r-ne0.false }
+finish_rounds-requires c = record {
+  ready = let g = c.requires.image in
+      given_ready _ _ _ _ _ _ _ _ g.lent g.displays _ _ _ _ _ (c.walk_given-r.ensures g.lent g.displays g.entry) c.if-r-ne0.false;
+}
 
 pub returns : goal.returns
 returns c = λ l q e.

@@ -14,9 +14,11 @@ code_section-code-requires c = let g = c.args in
     few_of l _ c.check-n.ensures c.if-n-ne0.false
 
 pub map_checked-requires : goal.map_checked-requires
-map_checked-requires c = record { image = let g = c.args in
-    let l : Lent = lent g.sections.now g.bytes.now g.outcomes.now g.functions.now g.objects.now g.skips.now g.entry.now in
-    handed_of l _ (sym c.check-n.ensures ∙ c.if-n-ne0.false) (c.code_section-code.ensures l refl) }
+map_checked-requires c = record {
+  image = let g = c.args in
+      let l : Lent = lent g.sections.now g.bytes.now g.outcomes.now g.functions.now g.objects.now g.skips.now g.entry.now in
+      handed_of l _ (sym c.check-n.ensures ∙ c.if-n-ne0.false) (c.code_section-code.ensures l refl);
+}
 
 pub returns : goal.returns
 returns c = let g = c.args in

@@ -10,9 +10,11 @@ pub returns-then-r-ne0 : goal.returns-then-r-ne0
 returns-then-r-ne0 c = λ l es q h t. rounds_fail (image l) _ es _ _ _ _ _ (c.process_functions-r.ensures l es q h t) c.if-r-ne0.true
 
 pub last_rounds-t-requires : goal.last_rounds-t-requires
-last_rounds-t-requires c = record { ready = let g = c.requires.ready in
-    let i = c.process_functions-r.ensures g.lent g.entries g.displays g.holds g.sane in
-    rounds_ready _ _ _ _ _ _ _ _ g.lent g.displays g.entries g.sane _ _ _ _ _ i c.if-r-ne0.false }
+last_rounds-t-requires c = record {
+  ready = let g = c.requires.ready in
+      let i = c.process_functions-r.ensures g.lent g.entries g.displays g.holds g.sane in
+      rounds_ready _ _ _ _ _ _ _ _ g.lent g.displays g.entries g.sane _ _ _ _ _ i c.if-r-ne0.false;
+}
 
 pub returns-then-t-ne0 : goal.returns-then-t-ne0
 returns-then-t-ne0 c = λ l es q h t.
@@ -23,14 +25,16 @@ returns-then-t-ne0 c = λ l es q h t.
     last_fail (image l) _ es _ _ _ _ _ i z _ _ _ _ _ j c.if-t-ne0.true
 
 pub all_finalized-requires : goal.all_finalized-requires
-all_finalized-requires c = record { good = let g = c.requires.ready in
-    let l = g.lent in
-    let i = c.process_functions-r.ensures l g.entries g.displays g.holds g.sane in
-    let z = c.if-r-ne0.false in
-    let d = rounds_gone (image l) _ g.entries _ _ _ _ _ i z in
-    let j = rw c.lists-1.given at (c.last_rounds-t.ensures l d.entries g.displays d.holds (rounds_sane _ _ _ _ _ _ _ _ l g.displays g.entries g.sane _ _ _ _ _ i z)) in
-    let e = last_gone (image l) _ g.entries _ _ _ _ _ i z _ _ _ _ _ j c.if-t-ne0.false in
-    record { entries = e.entries; holds = e.holds } }
+all_finalized-requires c = record {
+  good = let g = c.requires.ready in
+      let l = g.lent in
+      let i = c.process_functions-r.ensures l g.entries g.displays g.holds g.sane in
+      let z = c.if-r-ne0.false in
+      let d = rounds_gone (image l) _ g.entries _ _ _ _ _ i z in
+      let j = rw c.lists-1.given at (c.last_rounds-t.ensures l d.entries g.displays d.holds (rounds_sane _ _ _ _ _ _ _ _ l g.displays g.entries g.sane _ _ _ _ _ i z)) in
+      let e = last_gone (image l) _ g.entries _ _ _ _ _ i z _ _ _ _ _ j c.if-t-ne0.false in
+      record { entries = e.entries; holds = e.holds };
+}
 
 pub shape_of-lists : goal.shape_of-lists
 shape_of-lists c = c.lists-2-1.given ∙ c.lists-1.given

@@ -1,7 +1,6 @@
 use mathlib.Core.Path.{refl}
 use Rattle.rules.specs.Choice.{if}
 use Rattle.obj.proofs.Told.{of_kind, of_list}
-use borrow.Author.Rules.{rules}
 use Rattle.obj.proofs.outcomes.outcome_of.Goals as goal
 
 -- `obj::outcomes::outcome_of` is `outcome_of` of `rules`. Assumes nothing.

@@ -1,6 +1,5 @@
 use Rattle.obj.proofs.Told.{told_is}
 use mathlib.Core.Path.{refl}
-use borrow.Author.Rules.{rules}
 use Rattle.obj.proofs.outcomes.told_at.Goals as goal
 
 -- `obj::outcomes::told_at` is `told_at` of `rules`. Assumes nothing.

@@ -3,7 +3,6 @@ use mathlib.Core.Path.{◌≡◌}
 use lib.ListN.{length, drop}
 use Rattle.obj_image.specs.Lent.{rows, section_row}
 use Rattle.obj.proofs.CodeSection.{code_in}
-use borrow.Author.Rules.{rules}
 use Rattle.obj.proofs.sections.code_section.Given as goal
 
 -- `obj::sections::code_section` is the code section of `rules`. Assumes nothing.

@@ -3,7 +3,6 @@ use mathlib.Core.Path.{◌≡◌}
 use lib.ListN.{length, drop}
 use Rattle.obj_image.specs.Lent.{rows, section_row}
 use Rattle.obj.proofs.Part.{part_in}
-use borrow.Author.Rules.{rules}
 use Rattle.obj.proofs.sections.section_of.Given as goal
 
 -- `obj::sections::section_of` is the section of an address in `rules`. Assumes nothing.

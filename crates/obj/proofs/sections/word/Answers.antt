@@ -1,7 +1,6 @@
 use Rattle.obj.proofs.Words.{word_below, word_above, word_here}
 use native.Mathlib.Omega.{arith}
 use mathlib.Core.Path.{◌∙◌}
-use borrow.Author.Rules.{rules}
 use Rattle.obj.proofs.sections.word.Goals as goal
 
 -- `obj::sections::word` is `word` of `rules`. Assumes nothing.

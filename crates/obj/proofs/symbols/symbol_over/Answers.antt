@@ -2,7 +2,6 @@ use Rattle.obj.proofs.Halving.{over_outside, over_none, over_short, over_covers}
 use native.Mathlib.Omega.{arith}
 use mathlib.Core.Path.{refl}
 use Prim.Native.Nat.{◌-◌}
-use borrow.Author.Rules.{rules}
 use Rattle.obj.proofs.symbols.symbol_over.Goals as goal
 
 -- `obj::symbols::symbol_over` is `symbol_over` of `rules`. Assumes nothing.

@@ -3,7 +3,6 @@ use mathlib.Core.Path.{◌≡◌}
 use lib.ListN.{length, drop}
 use Rattle.obj_image.specs.Lent.{rows, section_row}
 use Rattle.obj_image.proofs.SectionRows.{locate_in}
-use borrow.Author.Rules.{rules}
 use Rattle.obj_image.proofs.sections.locate.Given as goal
 
 -- `obj::sections::locate` is `locate` of `rules`. Assumes nothing.

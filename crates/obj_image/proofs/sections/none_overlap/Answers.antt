@@ -1,6 +1,5 @@
 use mathlib.Core.Path.{refl}
 use native.Mathlib.Omega.{arith}
-use Rattle.rules.specs.Check as rules
 use Rattle.obj_image.proofs.SectionRows.{apart_on, apart_fails, apart_ends}
 use borrow.Author.Rules.{rules}
 use Rattle.obj_image.proofs.sections.none_overlap.Goals as goal

@@ -3,7 +3,6 @@ use mathlib.Core.Path.{◌≡◌}
 use lib.ListN.{length, drop}
 use Rattle.rules.specs.Check as rules
 use Rattle.obj_image.specs.Lent.{rows, section_row}
-use borrow.Author.Rules.{rules}
 use Rattle.obj_image.proofs.sections.none_overlap.Given as goal
 
 -- `obj::sections::none_overlap` is `none_overlap` of `rules`. Assumes nothing.

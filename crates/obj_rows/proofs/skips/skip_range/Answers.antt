@@ -1,5 +1,4 @@
 use Rattle.obj_rows.proofs.SkipHalving.{none_begun, last_holds, last_fails}
-use borrow.Author.Rules.{rules}
 use Rattle.obj_rows.proofs.skips.skip_range.Goals as goal
 
 -- `obj::skips::skip_range` is `skip_range` of `rules`. Assumes nothing.

@@ -1,7 +1,6 @@
 use mathlib.Core.Path.{refl}
 use native.Mathlib.Omega.{arith}
 use Rattle.obj_rows.proofs.KeyHalving.{size_here, size_elsewhere, size_none}
-use borrow.Author.Rules.{rules}
 use Rattle.obj_rows.proofs.symbols.known_size.Goals as goal
 
 -- `obj::symbols::known_size` is `known_size` of `rules`. Assumes nothing.

@@ -1,5 +1,4 @@
 use Rattle.rules.specs.Branches.{is_absolute}
-use borrow.Author.Rules.{rules}
 use Rattle.ppc.proofs.branches.is_absolute.Goals as goal
 
 -- `ppc::branches::is_absolute` is `is_absolute` of `rules`. Assumes nothing.

@@ -1,7 +1,6 @@
 use Prim.Native.Nat.{ℕ, ◌*◌, ◌%◌, ◌^◌, ◌<◌}
 use mathlib.Core.Path.{◌≡◌}
 use native.Mathlib.Nat.{one-mul, mod-eq_of_lt}
-use borrow.Author.Rules.{rules}
 use lib.Pow.{pow-lt, pow_pos}
 use lib.Bits.{and_mask}
 use Rattle.ppc.proofs.fields.field.Goals as goal

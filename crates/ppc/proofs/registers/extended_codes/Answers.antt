@@ -2,7 +2,6 @@ use mathlib.Core.Path.{refl}
 use Rattle.rules.specs.Choice.{if}
 use Rattle.rules.specs.Registers.{extended_rows, arithmetic_table, extended_table}
 use Rattle.ppc.specs.Codes.{extended_codes, digits}
-use borrow.Author.Rules.{rules}
 use Rattle.ppc.proofs.registers.extended_codes.Goals as goal
 
 -- `ppc::registers::extended_codes`: the table is the one that the rows of `rules` give, which antt computes. Assumes nothing.

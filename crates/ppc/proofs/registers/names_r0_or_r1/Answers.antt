@@ -1,5 +1,4 @@
 use Rattle.rules.specs.Registers.{names_r0_or_r1, registers_named}
-use borrow.Author.Rules.{rules}
 use Rattle.ppc.proofs.registers.names_r0_or_r1.Goals as goal
 
 -- `ppc::registers::names_r0_or_r1` is that of `rules`. Assumes nothing.

@@ -1,6 +1,5 @@
 use Rattle.rules.specs.Sequences.{is_end_of_seq}
 use Rattle.rules.specs.Registers.{names_r0_or_r1, registers_named}
-use borrow.Author.Rules.{rules}
 use Rattle.ppc.proofs.sequences.is_end_of_seq.Goals as goal
 
 -- `ppc::sequences::is_end_of_seq` is `is_end_of_seq` of `rules`. Assumes nothing.
