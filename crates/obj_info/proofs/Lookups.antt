@@ -4,15 +4,15 @@ use borrow.Author.Tests.{eq-eqb, ne_eqb, lt-ltb, le-ltb, leb-true, ltb-true, eqb
 use Rattle.std.specs.Result.{OkIff, result_ok}
 use Rattle.std.specs.Simd.{first_chunks}
 use Rattle.rules.specs.Choice.{if, if_true, if_false}
-use Rattle.rules.specs.Address.{key, address_of, section_of}
+use Rattle.rules.specs.Address.{address_of, section_of}
 use Rattle.rules.specs.Image as images
 use Rattle.rules.specs.Image.{Kind, code_section, code_number, section_at, contains, in_code, index, no_section, no_word}
 use Rattle.rules.specs.Bytes.{words_in}
-use Rattle.rules.specs.Given.{SectionRow, SymbolRow, entry_of, kind_of, symbol_of, image_of}
+use Rattle.rules.specs.Given.{entry_of, kind_of, image_of}
 use Rattle.rules.specs.Check as rules
 use Rattle.rules.specs.Check.{check}
 use Rattle.rules.proofs.Tests.{and_left, and_right}
-use Rattle.rules.proofs.Passes.{passed_of, checked_of}
+use Rattle.rules.proofs.Passes.{passed_of}
 use Rattle.obj_image.specs.Lent.{Lent, rows, section_row, symbol_row, given, image}
 use Rattle.obj.specs.Sections.{IsCode, IsPart}
 use Rattle.obj.specs.declared.sections.Code.{Code}

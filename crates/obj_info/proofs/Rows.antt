@@ -1,23 +1,22 @@
 -- What check 1 says of the rows of the sections, and rows as chunks. Assumes nothing.
-use Prim.Native.Nat.{ℕ, zero, suc, ◌+◌, ◌-◌, ◌*◌, ◌/◌, ◌%◌, ◌<◌, ◌≤◌}
+use Prim.Native.Nat.{ℕ, zero, suc, ◌+◌, ◌-◌, ◌/◌, ◌%◌, ◌<◌, ◌≤◌}
 use mathlib.Core.Path.{◌≡◌, refl, sym, ap, ◌∙◌}
 use mathlib.Core.Bool.{Bool, true, false, false≢true, ◌&&◌}
 use mathlib.Core.List.{List, [], ◌∷◌, map}
 use native.Mathlib.Omega.{arith}
 use lib.Dec.{leb, eqb}
-use lib.ListN.{length, take, drop, get_or, length-drop}
+use lib.ListN.{length, take, drop, get_or}
 use borrow.Author.Tests.{leb-true, eqb-true, eqb-false, eq-eqb, ne_eqb}
 use Rattle.std.specs.Simd.{first_chunks}
 use Rattle.rules.specs.Choice.{if, if_false}
 use Rattle.rules.specs.Image as images
 use Rattle.rules.specs.Image.{Kind, no_section}
-use Rattle.rules.specs.Given.{SectionRow, SymbolRow, kind_of, sections_of, symbol_of}
+use Rattle.rules.specs.Given.{SectionRow, kind_of, sections_of, symbol_of}
 use Rattle.rules.specs.Check as rules
 use Rattle.rules.proofs.Tests.{and_left, and_right}
 use Rattle.obj_image.specs.Lent.{Lent, rows, rows_from, section_row, symbol_row, given}
 use Rattle.obj.specs.declared.sections.Code.{Code}
 use Rattle.obj.proofs.CodeSection.{code_in}
-use Rattle.obj_image.proofs.Rows.{rows_count}
 use Rattle.obj_info.specs.Info.{symbol_in}
 
 -- the parts of check 1 that are asked of each section
