@@ -1,5 +1,6 @@
 -- What the lookups in a checked image come to. Assumes nothing.
 use Rattle.std.proofs.Common.{◌≡◌, ℕ, ◌+◌, ◌-◌, ◌/◌, ◌%◌, ◌*◌, ◌<◌, ◌≤◌, ◌≢◌, refl, sym, ap, ◌∙◌, List, [], ◌∷◌, length, take, drop, get_or, map, Bool, true, false, ◌&&◌, Option, Some, None, Result, Ok, Err, eqb, leb, ltb, arith}
+use mathlib.Core.Logic.{◌⊎◌, inl, inr}
 use borrow.Author.Tests.{eq-eqb, ne_eqb, lt-ltb, le-ltb, leb-true, ltb-true, eqb-true, eqb-false}
 use Rattle.std.specs.Result.{OkIff, result_ok}
 use Rattle.std.specs.Simd.{first_chunks}
@@ -12,7 +13,7 @@ use Rattle.rules.specs.Given.{entry_of, kind_of, image_of}
 use Rattle.rules.specs.Check as rules
 use Rattle.rules.specs.Check.{check}
 use Rattle.rules.proofs.Tests.{and_left, and_right}
-use Rattle.rules.proofs.Passes.{passed_of}
+use Rattle.rules.proofs.Passes.{passed_of, checked_of}
 use Rattle.obj_image.specs.Lent.{Lent, rows, section_row, symbol_row, given, image}
 use Rattle.obj.specs.Sections.{IsCode, IsPart}
 use Rattle.obj.specs.declared.sections.Code.{Code}
@@ -20,7 +21,7 @@ use Rattle.obj.specs.declared.sections.Part.{Part}
 use Rattle.obj.proofs.CodeSection.{code_in, code_is}
 use Rattle.obj.proofs.Ready.{whole_functions}
 use Rattle.obj_image.proofs.Rows.{rows_count}
-use Rattle.obj_info.proofs.Rows.{Rowwise, rowwise, code_small, code_numbered, bss_empty, symbols_chunked}
+use Rattle.obj_info.proofs.Rows.{Rowwise, rowwise, rows_located, code_small, code_numbered, bss_empty, symbols_chunked}
 use Rattle.obj_info.specs.Info.{some_nonzero, some_word, index_in_code, symbol_in}
 
 -- 0 is none
@@ -53,10 +54,17 @@ module _ (l : Lent) (checked : check (given l) ≡ 0) (c : Code) (code : IsCode 
   pub size_small : c.size ≤ 262144
   size_small = omega (arith, code.size, first.size, code_small 1 0 (rows 4 section_row l.sections) rows_pass.code_fits)
 
-  pub number_small : (c.number ≤ 9) × (0 < c.number)
+  pub number_small : (c.number ≤ 8) × (0 < c.number)
   number_small =
-      let n : (first_code.number ≤ 1 + length (rows 4 section_row l.sections)) × (0 < first_code.number) = code_numbered 1 0 (rows 4 section_row l.sections) (omega arith) in
-      (omega (arith, code.number, first.number, n.0, rows_pass.few), omega (arith, code.number, first.number, n.1))
+      let n = code_numbered 1 0 (rows 4 section_row l.sections) (omega arith) in
+      (below n.0, omega (arith, code.number, first.number, n.1))
+    where
+      below : (first_code.number < 1 + length (rows 4 section_row l.sections) ⊎ (rules.count_codes (rows 4 section_row l.sections) ≡ 0)) → c.number ≤ 8
+      below (inl h) = omega (arith, code.number, first.number, h, rows_pass.few)
+      below (inr h) = absurd (omega (arith, h, rows_pass.one_code))
+
+  pub code_end : c.base + c.size ≤ 0xF000_0000
+  code_end = rw (code.base, code.size) (checked_of (given l) checked).sound.fits
 
   -- an address lies in code
   pub in_code_is : (k : ℕ) → (eqb (k / 0x1_0000_0000) c.number && (leb c.base (k % 0x1_0000_0000) && ltb (k % 0x1_0000_0000) (c.base + c.size))) ≡ in_code (image l) k
@@ -117,6 +125,10 @@ module _ (l : Lent) (checked : check (given l) ≡ 0) where
   functions_chunked h = symbols_chunked l.functions h
 
 -- ---- sections
+
+pub located_low : (l : Lent) → check (given l) ≡ 0 → (a : ℕ) → a < 0x1_0000_0000 → images.locate (image l) a < 0x10_0000_0000
+unfolding images.locate image_of given
+located_low l checked a h = rows_located (rows 4 section_row l.sections) l.bytes a (rowwise l (passed_of (given l) checked).image).few h
 
 module _ (l : Lent) (checked : check (given l) ≡ 0) (k : ℕ) (p : Part) (part : IsPart l k p) where
   pub part_end : p.kind ≢ 4 → p.offset + p.size ≤ length l.bytes

@@ -1,5 +1,6 @@
 -- What check 1 says of the rows of the sections, and rows as chunks. Assumes nothing.
 use Prim.Native.Nat.{ℕ, zero, suc, ◌+◌, ◌-◌, ◌/◌, ◌%◌, ◌<◌, ◌≤◌}
+use mathlib.Core.Logic.{◌⊎◌, inl, inr}
 use mathlib.Core.Path.{◌≡◌, refl, sym, ap, ◌∙◌}
 use mathlib.Core.Bool.{Bool, true, false, false≢true, ◌&&◌}
 use mathlib.Core.List.{List, [], ◌∷◌, map}
@@ -10,7 +11,8 @@ use borrow.Author.Tests.{leb-true, eqb-true, eqb-false, eq-eqb, ne_eqb}
 use Rattle.std.specs.Simd.{first_chunks}
 use Rattle.rules.specs.Choice.{if, if_false}
 use Rattle.rules.specs.Image as images
-use Rattle.rules.specs.Image.{Kind, no_section}
+use Rattle.rules.specs.Address.{key}
+use Rattle.rules.specs.Image.{Kind, Section, no_section, contains, locate_from}
 use Rattle.rules.specs.Given.{SectionRow, kind_of, sections_of, symbol_of}
 use Rattle.rules.specs.Check as rules
 use Rattle.rules.proofs.Tests.{and_left, and_right}
@@ -22,6 +24,7 @@ use Rattle.obj_info.specs.Info.{symbol_in}
 -- the parts of check 1 that are asked of each section
 pub record Rowwise (rs : List SectionRow) : Type 0 where
   pub few : length rs ≤ 8
+  pub one_code : rules.count_codes rs ≡ 1
   pub kinds : rules.all rules.is_kind rs ≡ true
   pub code_fits : rules.all rules.code_fits rs ≡ true
   pub has_bytes : rules.all rules.has_bytes rs ≡ true
@@ -38,6 +41,7 @@ rowwise l h =
     let rs : List SectionRow = rows 4 section_row l.sections in
     record {
       few = leb-true _ _ (and_right (leb 1 (length rs)) _ (and_left _ _ one));
+      one_code = eqb-true _ _ (and_right (rules.few_sections rs) _ one);
       kinds = and_right (rules.few_sections rs && rules.one_code rs) _ kinds;
       code_fits = and_right (rules.few_sections rs && rules.one_code rs && rules.all rules.is_kind rs && rules.all rules.is_placed rs && rules.none_overlap rs) _ fits;
       has_bytes = and_right (rules.few_sections rs && rules.one_code rs && rules.all rules.is_kind rs && rules.all rules.is_placed rs && rules.none_overlap rs && rules.all rules.code_fits rs) _ has;
@@ -56,18 +60,36 @@ code_small i at (r ∷ rs) h = go (rules.is_code_row r) refl (and_left _ _ h) (c
     go true e f k = leb-true _ _ (rw e at f)
     go false e f k = k
 
--- and its number too
-pub code_numbered : (i at : ℕ) (rs : List SectionRow) → (0 < i) → ((code_in i at rs).number ≤ i + length rs) × (0 < (code_in i at rs).number)
+-- and its number too: one section is of code
+pub code_numbered : (i at : ℕ) (rs : List SectionRow) → 0 < i → ((code_in i at rs).number < i + length rs ⊎ (rules.count_codes rs ≡ 0)) × (0 < (code_in i at rs).number)
 unfolding if
-code_numbered i at [] h = (omega arith, h)
+code_numbered i at [] h = (inr refl, h)
 code_numbered i at (r ∷ rs) h = go (rules.is_code_row r) (code_numbered (suc i) (at + r.given) rs (omega arith))
   where
     code : Bool → Code
     code b = if b (record { number = i; base = r.base; size = r.size; offset = at }) (code_in (suc i) (at + r.given) rs)
 
-    go : (b : Bool) → ((code_in (suc i) (at + r.given) rs).number ≤ suc i + length rs) × (0 < (code_in (suc i) (at + r.given) rs).number) → ((code b).number ≤ i + length (r ∷ rs)) × (0 < (code b).number)
-    go true k = (omega arith, h)
-    go false k = (omega (arith, k.0), k.1)
+    go : (b : Bool) → ((code_in (suc i) (at + r.given) rs).number < suc i + length rs ⊎ (rules.count_codes rs ≡ 0)) × (0 < (code_in (suc i) (at + r.given) rs).number) → ((code b).number < i + length (r ∷ rs) ⊎ (if b (suc (rules.count_codes rs)) (rules.count_codes rs) ≡ 0)) × (0 < (code b).number)
+    go true k = (inl (omega arith), h)
+    go false (inl k, p) = (inl (omega (arith, k)), p)
+    go false (inr k, p) = (inr k, p)
+
+-- where an address lies
+sections_count : (rs : List SectionRow) (d : List ℕ) → length (sections_of rs d) ≡ length rs
+sections_count [] d = refl
+sections_count (r ∷ rs) d = ap suc (sections_count rs (drop r.given d))
+
+located_from : (i : ℕ) (ss : List Section) (a : ℕ) → a < 0x1_0000_0000 → i + length ss ≤ 9 → locate_from i ss a < 0x10_0000_0000
+unfolding if
+located_from i [] a h n = omega arith
+located_from i (s ∷ ss) a h n = by (contains s a) (located_from (suc i) ss a h (omega arith))
+  where
+    by : (b : Bool) → locate_from (suc i) ss a < 0x10_0000_0000 → if b (key i a) (locate_from (suc i) ss a) < 0x10_0000_0000
+    by true f = omega arith
+    by false f = f
+
+pub rows_located : (rs : List SectionRow) (d : List ℕ) (a : ℕ) → length rs ≤ 8 → a < 0x1_0000_0000 → locate_from 1 (sections_of rs d) a < 0x10_0000_0000
+rows_located rs d a n h = located_from 1 (sections_of rs d) a h (omega (arith, sections_count rs d))
 
 -- ---- bss has no words
 

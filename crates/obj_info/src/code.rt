@@ -1,5 +1,5 @@
 // The code section: its words, and what each does.
-ghost use Rattle.std.specs.Prelude.{◌≡◌, ◌<◌, IfSome, length, true};
+ghost use Rattle.std.specs.Prelude.{◌≡◌, ◌<◌, ◌≤◌, ◌+◌, IfSome, length, true};
 ghost use Rattle.rules.specs.Bytes.{words_in};
 ghost use Rattle.rules.specs.Image as images;
 ghost use Rattle.obj.specs.Sections.{IsCode};
@@ -13,7 +13,9 @@ use obj::sections::Code;
 impl<'a> ObjInfo<'a> {
     /// The code section's number, and where it lies.
     pub fn code(&self) -> Code
-        ensures { IsCode (lent_of self.now) result }
+        ensures is { IsCode (lent_of self.now) result }
+        ensures number { result.number ≤ 8 }
+        ensures end { result.base + result.size ≤ 0xF000_0000 }
     {
         self.code
     }

@@ -1,5 +1,5 @@
 // The sections: where an address lies, and what lies there.
-ghost use Rattle.std.specs.Prelude.{◌≡◌, ◌≢◌, ◌≤◌, ◌+◌, [], eqb, length, take, drop};
+ghost use Rattle.std.specs.Prelude.{◌≡◌, ◌≢◌, ◌<◌, ◌≤◌, ◌+◌, IfSome, [], eqb, length, take, drop};
 ghost use Rattle.rules.specs.Choice.{if};
 ghost use Rattle.rules.specs.Image as images;
 ghost use Rattle.rules.specs.Address.{address_of};
@@ -64,7 +64,8 @@ fn bytes_of(bytes: &[u8], part: Part) -> &[u8]
 impl<'a> ObjInfo<'a> {
     /// A 32-bit address with the section that it lies in: the section's number, counted from 1, before it.
     pub fn locate(&self, a: u32) -> Option<u64>
-        ensures { result ≡ some_nonzero (images.locate (image_of self.now) a) }
+        ensures value { result ≡ some_nonzero (images.locate (image_of self.now) a) }
+        ensures low { IfSome result (λ key. key < 0x10_0000_0000) }
     {
         match locate(self.sections, a) {
             0 => None,
