@@ -1,0 +1,7 @@
+use Rattle.std.proofs.Common.{◌∙◌}
+use Rattle.rules.specs.Ordered.{self as own}
+use Rattle.tables.proofs.Places.{first_from_is, copied_item}
+use Rattle.tables.proofs.sets.Set.first_from.Goals as goal
+
+pub returns : goal.returns
+returns g c = rw (first_from_is own, ← c.rank.ensures, ← c.self.view_is, ← c.deref.ensures.0) (c.copied.ensures ∙ copied_item _ _ _ c.get.ensures.lookup)

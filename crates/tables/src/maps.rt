@@ -1,0 +1,146 @@
+// Values by address.
+
+ghost use Rattle.std.specs.Prelude.{◌≡◌, ◌≤◌, ◌-◌, [], length, option_map, slice_get};
+ghost use Rattle.rules.specs.Choice.{limited};
+ghost use Rattle.rules.specs.Ordered.{rank, has, put, Rising};
+ghost use Rattle.faults.specs.Outcome.{outcome};
+ghost use Rattle.tables.specs.Places.{IsPlace, row_of, last_below};
+ghost use Rattle.tables.specs.Rows.{row, key_of, value_of};
+
+use arrayvec::ArrayVec;
+use faults::Fault;
+use std::marker::Model;
+
+/// A value, and the address that it belongs to.
+#[derive(Clone, Copy, Debug, Default, PartialEq, Eq)]
+pub struct Row {
+    pub key: u64,
+    pub value: u64,
+}
+
+/// At most `N` rows, each key above the one before.
+#[derive(Drop)]
+pub struct Map<const N: usize> {
+    rows: ArrayVec<Row, N>,
+}
+
+impl<const N: usize> Model for Map<N> {
+    ghost use Rattle.std.specs.Prelude.{List};
+    ghost use Rattle.rules.specs.Ordered.{Rising};
+    ghost use Rattle.tables.specs.declared.maps.Row.{Row};
+    ghost use Rattle.tables.specs.Rows.{key_of};
+
+    ghost Value = { List Row };
+
+    ghost view = { λ t. t.rows.items };
+
+    ghost invariant = { λ t. Rising key_of t.rows.items };
+}
+
+impl<const N: usize> Map<N> {
+    /// No row.
+    pub fn new() -> Self
+        ensures { result ≡ [] }
+    {
+        Map {
+            rows: ArrayVec::new(),
+        }
+    }
+
+    /// The rows, ascending.
+    pub fn as_slice(&self) -> &[Row]
+        ensures rows { result.now ≡ self.now }
+        ensures fits { length result.now ≤ N }
+        ensures rising { Rising key_of result.now }
+    {
+        self.rows.as_slice()
+    }
+
+    /// How many there are.
+    pub fn len(&self) -> usize
+        ensures value { result ≡ length self.now }
+        ensures fits { result ≤ N }
+    {
+        self.rows.len()
+    }
+
+    // Where the row with a key is, or where it would go.
+    fn search(&self, key: u64) -> Result<usize, usize>
+        ensures place { IsPlace key_of key self.now result }
+        ensures fits { length self.now ≤ N }
+    {
+        self.rows.binary_search_by_key(&key, |row| row.key)
+    }
+
+    // How many keys are below `key`.
+    fn rank(&self, key: u64) -> usize
+        ensures value { result ≡ rank key_of key self.now }
+        ensures fits { result ≤ length self.now }
+    {
+        self.search(key).unwrap_or_else(|at| at)
+    }
+
+    /// Whether there is a row with a key.
+    pub fn contains_key(&self, key: u64) -> bool
+        ensures { result ≡ has key_of key self.now }
+    {
+        self.search(key).is_ok()
+    }
+
+    /// The value of a key.
+    pub fn get(&self, key: u64) -> Option<u64>
+        ensures { result ≡ option_map value_of (row_of key_of key self.now) }
+    {
+        match self.search(key) {
+            Ok(at) => Some(self.rows[at].value),
+            Err(_) => None,
+        }
+    }
+
+    /// Puts a row in its place, instead of the row with its key if there is one.
+    pub fn insert(&mut self, key: u64, value: u64) -> Result<(), Fault>
+        ensures { outcome self.new result ≡ limited N (put key_of (row key value) self.old) }
+    {
+        match self.search(key) {
+            Ok(at) => {
+                self.rows[at] = Row { key, value };
+                Ok(())
+            }
+            Err(at) => {
+                if self.rows.is_full() {
+                    return Err(Fault::Limit);
+                }
+                self.rows.insert(at, Row { key, value });
+                Ok(())
+            }
+        }
+    }
+
+    /// The last row whose key is below `key`.
+    pub fn lower(&self, key: u64) -> Option<Row>
+        ensures { result ≡ last_below key_of key self.now }
+    {
+        self.rows[..self.rank(key)].last().copied()
+    }
+
+    /// The first row.
+    pub fn first(&self) -> Option<Row>
+        ensures { result ≡ slice_get self.now 0 }
+    {
+        self.rows.first().copied()
+    }
+
+    /// The last row.
+    pub fn last(&self) -> Option<Row>
+        ensures { result ≡ slice_get self.now (length self.now - 1) }
+    {
+        self.rows.last().copied()
+    }
+
+    /// Takes all of them out.
+    pub fn clear(&mut self)
+        ensures { self.new ≡ [] }
+    {
+        self.rows.clear();
+    }
+}

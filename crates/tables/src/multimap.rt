@@ -1,0 +1,115 @@
+// The ways on from words: some addresses for each word.
+
+ghost use Rattle.std.specs.Prelude.{◌≡◌, ◌+◌, ◌-◌, ◌<◌, ◌≤◌, [], suc, length, map};
+ghost use Rattle.std.specs.List.{replace_range};
+ghost use Rattle.rules.specs.Ordered.{rank, put, Rising};
+ghost use Rattle.rules.specs.Slices.{from_of};
+ghost use Rattle.faults.specs.Outcome.{outcome};
+ghost use Rattle.tables.specs.Groups.{way, leaves, branches_of, grouped, limited_ways};
+
+use arrayvec::ArrayVec;
+use faults::Fault;
+use std::marker::Model;
+
+/// One way on, from a word to an address.
+#[derive(Clone, Copy, Debug, Default, PartialEq, Eq)]
+pub struct Way {
+    pub from: u64,
+    pub to: u64,
+}
+
+/// At most `N` ways on, by the words that they are from, ascending. Those of a word keep their order.
+#[derive(Drop)]
+pub struct Ways<const N: usize> {
+    ways: ArrayVec<Way, N>,
+}
+
+impl<const N: usize> Model for Ways<N> {
+    ghost use Rattle.std.specs.Prelude.{List};
+    ghost use Rattle.rules.specs.Ordered.{Rising};
+    ghost use Rattle.rules.specs.Slices.{Branches, from_of};
+    ghost use Rattle.tables.specs.Groups.{grouped};
+
+    ghost Value = { List Branches };
+
+    ghost view = { λ t. grouped t.ways.items };
+
+    ghost invariant = { λ t. Rising from_of (grouped t.ways.items) };
+}
+
+impl<const N: usize> Ways<N> {
+    /// No way on.
+    pub fn new() -> Self
+        ensures { result ≡ [] }
+    {
+        Ways {
+            ways: ArrayVec::new(),
+        }
+    }
+
+    /// Each way on, in order.
+    pub fn as_slice(&self) -> &[Way]
+        ensures ways { grouped result.now ≡ self.now }
+        ensures fits { length result.now ≤ N }
+        ensures rising { Rising from_of (grouped result.now) }
+    {
+        self.ways.as_slice()
+    }
+
+    /// Takes all of them out.
+    pub fn clear(&mut self)
+        ensures { self.new ≡ [] }
+    {
+        self.ways.clear();
+    }
+
+    /// Sets the targets of a word, instead of those that it had.
+    pub fn set(&mut self, from: u64, targets: &[u64]) -> Result<(), Fault>
+        requires { 0 < length targets.now }
+        ensures { outcome self.new result ≡ limited_ways N (put from_of (branches_of from targets.now) self.old) }
+    {
+        let at = count_below(&self.ways, from);
+        let until = count_up_to(&self.ways, from);
+        let kept = self.ways.len() - (until - at);
+        if N - kept < targets.len() {
+            return Err(Fault::Limit);
+        }
+        replace(&mut self.ways, at, until, from, targets);
+        Ok(())
+    }
+}
+
+// How many ways on are from words below `from`.
+fn count_below(ways: &[Way], from: u64) -> usize
+    requires { Rising from_of (grouped ways.now) }
+    ensures { result ≡ rank leaves from ways.now }
+{
+    ways.partition_point(|way| way.from < from)
+}
+
+// How many are from there or below.
+fn count_up_to(ways: &[Way], from: u64) -> usize
+    requires { Rising from_of (grouped ways.now) }
+    ensures { result ≡ rank leaves (suc from) ways.now }
+{
+    ways.partition_point(|way| way.from <= from)
+}
+
+// Puts the ways from a word to its targets in the place of those from `at` up to `until`.
+fn replace<const N: usize>(
+    ways: &mut ArrayVec<Way, N>,
+    at: usize,
+    until: usize,
+    from: u64,
+    targets: &[u64],
+)
+    requires place { (at ≤ until) × (until ≤ length ways.old.items) }
+    requires room { length ways.old.items + length targets.now ≤ N + (until - at) }
+    ensures { ways.new.items ≡ replace_range ways.old.items at until (map (way from) targets.now) }
+{
+    ways.drain(at..until);
+    for &to in targets {
+        ways.push(Way { from, to });
+    }
+    ways[at..].rotate_right(targets.len());
+}
