@@ -1,0 +1,4 @@
+pub mod Readings
+pub mod Chunks
+pub mod Tables
+pub mod Loops

@@ -1,0 +1,13 @@
+// An image that was checked, and what is known of it by address (obj/mod.rs).
+#![tactic(auto)]
+
+mod checks;
+mod code;
+mod info;
+mod known;
+mod sections;
+
+pub use info::ObjInfo;
+pub use obj::outcomes::{Branch, Outcome, To, Told};
+pub use obj::sections::Code;
+pub use sections::{Section, SectionKind};
