@@ -82,7 +82,8 @@ impl<const N: usize> Map<N> {
 
     /// Whether there is a row with a key.
     pub fn contains_key(&self, key: u64) -> bool
-        ensures { result ≡ has key_of key self.now }
+        ensures value { result ≡ has key_of key self.now }
+        ensures fits { length self.now ≤ N }
     {
         self.search(key).is_ok()
     }

@@ -1,0 +1,6 @@
+use Rattle.slices.specs.View.{slices_of}
+use Rattle.slices.proofs.FunctionSlices.is_function_reference.Goals as goal
+
+pub returns : goal.returns
+unfolding slices_of
+returns c = c.contains.ensures

@@ -1,0 +1,4 @@
+pub mod Rows
+pub mod Views
+pub mod Marks
+pub mod Apart

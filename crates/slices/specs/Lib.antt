@@ -1,0 +1,3 @@
+pub mod Some
+pub mod Blocks
+pub mod View
