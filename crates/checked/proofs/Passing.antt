@@ -4,7 +4,7 @@ use Rattle.rules.specs.Check as rules
 use Rattle.rules.specs.Image as images
 use Rattle.rules.specs.Address.{address_of}
 use Rattle.rules.proofs.Passes.{passed_of}
-use Rattle.obj.specs.Lent.{Lent, lent, given, image, seen}
+use Rattle.obj.specs.Lent.{Lent, lent, given, image}
 use Rattle.obj.specs.Sections.{Few}
 use Rattle.obj.specs.Symbols.{KeysAscend}
 use Rattle.obj.proofs.Ready.{few_sections, objects_rise}
@@ -20,6 +20,9 @@ passing s b o f j k e n h z =
     let l : Lent = lent s b o f j k e in
     let c : rules.check (given l) ≡ 0 = sym h ∙ z in
     (few_sections l c, (image_passed s b o f j k e (passed_of (given l) c).image, objects_rise l c))
+
+pub objects_ascend : (s b o f j k e : List ℕ) → rules.check (given (lent s b o f j k e)) ≡ 0 → KeysAscend s j
+objects_ascend s b o f j k e h = (passing s b o f j k e 0 (sym h) refl).1.1
 
 -- a table that was found in its section lies there
 pub at_table : (s : List ℕ) (t : ℕ) (r : Bool) → ((l : Lent) → l.sections ≡ s → r ≡ images.contains (images.section_at (image l) t) (address_of t)) → r ≡ true → AtTable s t

@@ -1,216 +1,127 @@
-// An image whose lists are whole: its number, and its jump tables.
+//! The jump tables of an image that passes the checks.
+ghost use Rattle.std.specs.Prelude.{◌≡◌};
+ghost use Rattle.rules.specs.Check.{check};
+ghost use Rattle.obj.specs.Lent.{given, lent};
 ghost use Rattle.obj.specs.Sections.{Few};
-ghost use Rattle.obj.specs.Symbols.{KeysAscend};
-ghost use Rattle.ordered.specs.Part.{Column};
 ghost use Rattle.analysis.specs.Tables.{Passed};
 
-use lines::{Bytes, Numbers, State};
+use lines::Image;
+use obj::sections::{code_section, is_in_section, locate};
+use std::io::{self, Write};
 
-// From where to where a table without a size may lead.
+/// An image that passes the checks, with what its tables are read by.
 #[derive(Clone, Copy)]
+pub struct Checked<'a> {
+    pub image: &'a Image,
+    ghost few: { Few image.now.sections.items },
+    ghost passed: { Passed image.now.sections.items image.now.bytes.items },
+    ghost passes: { check
+        (given
+        (lent image.now.sections.items image.now.bytes.items image.now.outcomes.items image.now.functions.items
+        image.now.objects.items image.now.skips.items image.now.entry.items)) ≡ 0 },
+}
+
+/// From where to where a table without a size may lead.
+#[derive(Clone, Copy, Debug, PartialEq, Eq)]
 struct Bounds {
     first: u64,
     past: u64,
 }
 
-// What the walk hands to the reading of a table when it comes to the word at a straight from its function's start: the start of the
-// last function symbol at or below the word, else of the code section, and the end that the symbol knows, else the word's own.
-fn bounds_of(sections: &[u32], functions: &[u32], base: u32, a: u32) -> Bounds
-    requires { Few sections.now }
-{
-    let mut at: usize = 0;
-    let mut start = base;
-    let mut size: u64 = 0;
-    let mut known = false;
-    while 3 <= functions.len() - at {
-        if functions[at] <= a {
-            start = functions[at];
-            size = obj::sections::wide(functions[at + 1]);
-            known = functions[at + 2] == 1;
+impl Checked<'_> {
+    /// What the walk hands to the reading of a table when it comes to a word straight from its function's start: the start of the
+    /// last function symbol at or below the word, else of the code section, and the end that the symbol knows, else the word's own.
+    fn bounds_at(&self, word: u32) -> Bounds {
+        let sections = self.image.sections.as_slice();
+        let mut start = code_section(sections).base;
+        let mut known_size = None;
+        for row in self.image.functions.chunks_exact(3) {
+            if let [symbol, size, is_known] = row {
+                if *symbol <= word {
+                    start = *symbol;
+                    known_size = if *is_known == 1 {
+                        Some(u64::from(*size))
+                    } else {
+                        None
+                    };
+                }
+            }
         }
-        at += 3;
-    }
-    let first = obj::sections::locate(sections, start);
-    // Addresses with their sections are far below 2^64, so nothing wraps; this sum asks no proof of it.
-    if known {
-        return Bounds {
-            first,
-            past: std::num::wrapping_add_u64(first, size),
+        // Addresses with their sections are far below 2^64, so nothing wraps; this sum asks no proof of it.
+        let first = locate(sections, start);
+        let past = match known_size {
+            Some(size) => first.wrapping_add(size),
+            None => locate(sections, word).wrapping_add(4),
         };
+        Bounds { first, past }
     }
-    Bounds {
-        first,
-        past: std::num::wrapping_add_u64(obj::sections::locate(sections, a), 4),
-    }
-}
 
-fn print_entries(entries: &[u64], count: usize) {
-    let mut i: usize = 0;
-    while i < count && i < entries.len() {
-        io::write_all(1, b" ");
-        io::print_hex(1, entries[i], 9);
-        i += 1;
-    }
-}
-
-fn print_read(r: analysis::Table, entries: &[u64]) {
-    if r.fault == 0 {
-        io::write_all(1, b" size ");
-        io::print_hex(1, obj::sections::wide(r.size), 8);
-        print_entries(entries, r.count);
-    } else {
-        io::write_all(1, b" fault ");
-        io::print_decimal(1, obj::sections::wide(r.fault));
-    }
-    io::write_all(1, b"\n");
-}
-
-// No entries yet.
-fn no_entries() -> [u64; 256]
-    ensures { Column 256 0 result }
-{
-    [0; 256]
-}
-
-// The table at an address, named by the code word at another.
-fn print_table(
-    sections: &[u32],
-    bytes: &[u8],
-    functions: &[u32],
-    objects: &[u32],
-    word: u32,
-    a: u32,
-    size: u32,
-)
-    requires few { Few sections.now }
-    requires passed { Passed sections.now bytes.now }
-    requires objects { KeysAscend sections.now objects.now }
-{
-    let t = obj::sections::locate(sections, a);
-    if obj::sections::is_in_section(sections, t) {
-        let b = bounds_of(
+    /// The table at an address, named by a code word.
+    fn print_table<W: Write>(
+        &self,
+        out: &mut W,
+        word: u32,
+        address: u32,
+        size: u32,
+    ) -> io::Result<()> {
+        let sections = self.image.sections.as_slice();
+        let target = locate(sections, address);
+        if !is_in_section(sections, target) {
+            return Ok(());
+        }
+        let bounds = self.bounds_at(word);
+        let mut entries = [0; 256];
+        let table = analysis::uniq_jump_table_entries(
             sections,
-            functions,
-            obj::sections::code_section(sections).base,
-            word,
-        );
-        let mut entries = no_entries();
-        let r = analysis::uniq_jump_table_entries(
-            sections,
-            bytes,
-            objects,
-            t,
+            self.image.bytes.as_slice(),
+            self.image.objects.as_slice(),
+            target,
             size,
-            b.first,
-            b.past,
+            bounds.first,
+            bounds.past,
             &mut entries,
         );
-        io::print_hex(1, obj::sections::wide(a), 8);
-        io::write_all(1, b" ");
-        io::print_hex(1, obj::sections::wide(size), 8);
-        print_read(r, &entries);
+        write!(out, "{address:08x} {size:08x} ")?;
+        match table.fault {
+            0 => {
+                write!(out, "size {:08x}", table.size)?;
+                for entry in entries.iter().take(table.count) {
+                    write!(out, " {entry:09x}")?;
+                }
+            }
+            fault => write!(out, "fault {fault}")?,
+        }
+        writeln!(out, "")
     }
-}
 
-// A branch to a table, which gives no size.
-fn print_branch(
-    sections: &[u32],
-    bytes: &[u8],
-    functions: &[u32],
-    objects: &[u32],
-    word: u32,
-    way: u32,
-    a: u32,
-)
-    requires few { Few sections.now }
-    requires passed { Passed sections.now bytes.now }
-    requires objects { KeysAscend sections.now objects.now }
-{
-    if way % 4 == 2 {
-        print_table(sections, bytes, functions, objects, word, a, 0);
+    /// A branch to a table, which gives no size.
+    fn print_branch<W: Write>(
+        &self,
+        out: &mut W,
+        word: u32,
+        way: u32,
+        address: u32,
+    ) -> io::Result<()> {
+        if way % 4 == 2 {
+            self.print_table(out, word, address, 0)?;
+        }
+        Ok(())
     }
-}
 
-// The tables of one outcome: of a jump table, or of a list's branches.
-fn print_outcome(
-    sections: &[u32],
-    bytes: &[u8],
-    functions: &[u32],
-    objects: &[u32],
-    word: u32,
-    row: [u32; 5],
-)
-    requires few { Few sections.now }
-    requires passed { Passed sections.now bytes.now }
-    requires objects { KeysAscend sections.now objects.now }
-{
-    if row[0] == 5 {
-        print_table(sections, bytes, functions, objects, word, row[1], row[2]);
+    /// The tables of all code words, in order: those of jump tables, and of lists' branches.
+    pub fn print_tables<W: Write>(&self, out: &mut W) -> io::Result<()> {
+        let mut word = code_section(self.image.sections.as_slice()).base;
+        for row in self.image.outcomes.chunks_exact(6) {
+            match row {
+                [5, _, address, size, _, _] => self.print_table(out, word, *address, *size)?,
+                [6, _, way, address, other_way, other_address] => {
+                    self.print_branch(out, word, *way, *address)?;
+                    self.print_branch(out, word, *other_way, *other_address)?;
+                }
+                _ => {}
+            }
+            word = word.wrapping_add(4);
+        }
+        Ok(())
     }
-    if row[0] == 6 {
-        print_branch(sections, bytes, functions, objects, word, row[1], row[2]);
-        print_branch(sections, bytes, functions, objects, word, row[3], row[4]);
-    }
-}
-
-// The tables of all code words, in order.
-fn print_tables(
-    sections: &[u32],
-    bytes: &[u8],
-    outcomes: &[u32],
-    functions: &[u32],
-    objects: &[u32],
-)
-    requires few { Few sections.now }
-    requires passed { Passed sections.now bytes.now }
-    requires objects { KeysAscend sections.now objects.now }
-{
-    let mut at: usize = 0;
-    let mut word = obj::sections::code_section(sections).base;
-    while 6 <= outcomes.len() - at {
-        let row = [
-            outcomes[at],
-            outcomes[at + 2],
-            outcomes[at + 3],
-            outcomes[at + 4],
-            outcomes[at + 5],
-        ];
-        print_outcome(sections, bytes, functions, objects, word, row);
-        word = std::num::wrapping_add_u32(word, 4);
-        at += 6;
-    }
-}
-
-// The number of an image and, where it passes, its tables.
-fn print_image(
-    sections: &[u32],
-    bytes: &[u8],
-    outcomes: &[u32],
-    functions: &[u32],
-    objects: &[u32],
-    skips: &[u32],
-    entry: &[u32],
-) {
-    let number = obj::checks::check(sections, bytes, outcomes, functions, objects, skips, entry);
-    io::print_decimal(1, obj::sections::wide(number));
-    io::write_all(1, b"\n");
-    if number == 0 {
-        print_tables(sections, bytes, outcomes, functions, objects);
-    }
-}
-
-// The answer of an image that was read.
-pub fn answer(numbers: &Numbers, bytes: &Bytes, image: State) {
-    if lines::is_whole(image) {
-        print_image(
-            lines::list(numbers, image, 0),
-            lines::byte_list(bytes, image),
-            lines::list(numbers, image, 1),
-            lines::list(numbers, image, 2),
-            lines::list(numbers, image, 3),
-            lines::list(numbers, image, 4),
-            lines::list(numbers, image, 5),
-        );
-    }
-    io::write_all(1, b"=\n");
 }

@@ -1,49 +1,57 @@
-// Reads an image from standard input, as lines of hexadecimal with one frame a line, and prints its map.
-//
-// crates/reading has the frames; `fmap_text` of crates/mapping is what is printed of a text of them. There is room to read 1,048,576 bytes:
-// a text that fills it may go on, and is refused by R 01 as one with a line that is no frame is.
+//! Reads an image from standard input, as lines of hexadecimal with one frame a line, and prints its map.
+//!
+//! crates/reading has the frames; `fmap_text` of crates/mapping is what is printed of a text of them. 1,048,576 bytes are read at most: a
+//! text that is so long may go on, and is refused by R 01 as one with a line that is no frame is.
 #![tactic(auto)]
 
-ghost use Rattle.std.specs.Prelude.{◌≡◌, ◌≤◌, length};
+ghost use Rattle.std.specs.Prelude.{◌≡◌, ◌≤◌, length, take, IfOk, OnOk, IfSome};
+ghost use Rattle.std.specs.Io.KnownBytes.{Appends};
 ghost use Rattle.printing.specs.Told.{Begun};
-ghost use Rattle.mapping.specs.Answers.{fmap_text};
-ghost use Rattle.fmap.specs.Part.{part};
+ghost use Rattle.mapping.specs.Answers.{fmap_text, text_room};
 
-type Text = [u8; 1048576];
+use std::alloc::Global;
+use std::io::{self, Read, Write};
 
-// Room for the longest text of a map.
-type Out = [u8; 1489000];
+/// How much is read at most.
+const TEXT_ROOM: u64 = 1048576;
 
-// Standard input, read to its end or as far as there is room; how many bytes there are. Nothing can be said of which they are.
-fn read_text(text: &mut Text) -> usize
-    ensures { result ≤ length text.new }
+/// Room for the longest text of a map.
+type Map = [u8; 1489000];
+
+/// What a reader gives, to its end or as far as there is room.
+fn read_text<R: Read + Drop>(alloc: Global, from: R) -> io::Result<Vec<u8>>
+    ensures { IfOk result (λ text. IfSome (R.remaining from) (λ bytes. text.items ≡ take text_room bytes)) }
 {
-    io::read_full(0, text)
+    let mut text = Vec::new(alloc);
+    from.take(TEXT_ROOM).read_to_end(&mut text)?;
+    Ok(text)
 }
 
-// What is printed of the first `count` bytes, which were read: `out` begins with it, and is as it was behind it. The answer is how long it
-// is.
-fn map_read(text: &Text, count: usize, out: &mut Out) -> usize
-    requires read { count ≤ length text.now }
-    requires room { length out.old ≡ 1489000 }
-    ensures { Begun (fmap_text (part 0 count text.now)) out.old out.new result }
+/// What is printed of a text: `map` begins with it, and is as it was behind it. The answer is how long it is.
+fn map_read(text: &[u8], map: &mut Map) -> usize
+    requires { length map.old ≡ 1489000 }
+    ensures { Begun (fmap_text text.now) map.old map.new result }
 {
-    let all: &[u8] = text;
-    mapping::fmap_text(&all[0..count], out)
+    mapping::fmap_text(text, map)
 }
 
-// The first `count` bytes to standard output. Nothing can be said of what is written.
-fn write_text(out: &Out, count: usize)
-    requires { count ≤ length out.now }
+/// The map of the image that a reader gives, to a writer.
+fn write_map<R: Read + Drop, W: Write>(
+    alloc: Global,
+    from: R,
+    map: &mut Map,
+    to: &mut W,
+) -> io::Result<()>
+    requires { length map.old ≡ 1489000 }
+    ensures { OnOk result (IfSome (R.remaining from)
+        (λ bytes. Appends (W.contents to.old) (W.contents to.new) (fmap_text (take text_room bytes)))) }
 {
-    let all: &[u8] = out;
-    io::write_all(1, &all[0..count]);
+    let text = read_text(alloc, from)?;
+    let count = map_read(&text, map);
+    to.write_all(&map[..count])
 }
 
-fn main() {
-    let mut text: Text = [0; 1048576];
-    let mut out: Out = [0; 1489000];
-    let n = read_text(&mut text);
-    let r = map_read(&text, n, &mut out);
-    write_text(&out, r);
+fn main(rt: HostRuntime) -> io::Result<()> {
+    let mut map: Map = [0; 1489000];
+    write_map(rt.alloc(), rt.reader(), &mut map, &mut io::writer(&rt))
 }

@@ -1,49 +1,24 @@
--- The search for a line `=`.
-use mathlib.Core.Path.{◌≡◌, refl, sym, ap, ◌∙◌}
+-- The places of lines `=`.
+use mathlib.Core.Path.{◌≡◌, refl, sym, ◌∙◌}
 use mathlib.Core.Bool.{Bool, true, false}
 use mathlib.Core.List.{List}
 use mathlib.Core.Logic.{◌⊎◌, inl, inr}
-use Prim.Native.Nat.{ℕ, zero, suc, ◌+◌, ◌-◌, ◌<◌, ◌≤◌}
+use Prim.Native.Nat.{ℕ, zero, suc, ◌+◌, ◌-◌, ◌≤◌}
 use native.Mathlib.Omega.{arith}
-use lib.Dec.{ltb}
 use lib.ListN.{length, take, drop, get_or, length-drop}
 use lib.Seq.{take_all, get_or-drop}
-use borrow.Author.Tests.{ltb-true, ltb-false}
+use borrow.Author.Rules.{rules}
+use Rattle.std.specs.Prelude.{None, Some}
 use Rattle.replay.specs.Marks.{Mark, IsMark, NextMark}
 use Rattle.replay.specs.Rest.{Cut, Rest}
 
--- it begins no line
-pub inside_a_line : {A B : Type 0} → (A → ⊥) → (B → ⊥) → A ⊎ B → ⊥
-inside_a_line f g (inl a) = f a
-inside_a_line f g (inr b) = g b
+pub marked : (b : Bool) (t : List ℕ) (i : ℕ) → IsMark b t i → b ≡ true → Mark t i
+marked true t i m e = m
+marked false t i m e = absurd (search (rules, e))
 
--- no line `=` begins before a place
-pub record Searched (t : List ℕ) (i : ℕ) : Type 0 where
-  pub within : i ≤ length t
-  pub none : (j : ℕ) → j < i → Mark t j → ⊥
-
-module _ (t : List ℕ) where
-  pub searched_first : Searched t 0
-  searched_first = record { within = omega arith; none = λ j h. absurd (omega arith) }
-
-  module _ (i : ℕ) (s : Searched t i) where
-    pub searched_all : length t ≤ i → NextMark t i
-    searched_all h = record { within = s.within; here = λ k. absurd (omega arith); first = s.none }
-
-    pub found : (b : Bool) → IsMark b t i → b ≡ true → NextMark t i
-    found true m e = record { within = s.within; here = λ _. m; first = s.none }
-    found false m e = let z : ◌≡◌ {A = Bool} false true = e in let y : ◌≡◌ {A = ℕ} 0 1 = cc in absurd (omega arith)
-
-    pub searched_next : i < length t → (b : Bool) → IsMark b t i → b ≡ false → Searched t (i + 1)
-    searched_next h true m e = let z : ◌≡◌ {A = Bool} true false = e in let y : ◌≡◌ {A = ℕ} 0 1 = cc in absurd (omega arith)
-    searched_next h false m e = record { within = omega arith; none = at }
-      where
-        at : (j : ℕ) → j < i + 1 → Mark t j → ⊥
-        at j l k = by (ltb j i) refl
-          where
-            by : (b : Bool) → ltb j i ≡ b → ⊥
-            by true q = s.none j (ltb-true j i q) k
-            by false q = let z : i ≤ j = ltb-false j i q in let y : j ≡ i = omega arith in m (rw y at k)
+pub unmarked : (b : Bool) (t : List ℕ) (i : ℕ) → IsMark b t i → b ≡ false → Mark t i → ⊥
+unmarked true t i m e = absurd (search (rules, e))
+unmarked false t i m e = m
 
 -- ---- a mark behind a place at which the text is cut
 
@@ -71,27 +46,16 @@ module _ (t : List ℕ) (at : ℕ) (h : at ≤ length t) (k : Cut t at) where
         inside = omega (arith, q.inside, length-drop at t);
       }
 
-  module _ (m : ℕ) (n : NextMark (take (length t - at) (drop at t)) m) where
-    whole : take (length t - at) (drop at t) ≡ drop at t
-    whole = take_all (length t - at) (drop at t) (omega (arith, length-drop at t))
+  whole : take (length t - at) (drop at t) ≡ drop at t
+  whole = take_all (length t - at) (drop at t) (omega (arith, length-drop at t))
 
-    long : length (take (length t - at) (drop at t)) ≡ length t - at
-    long = ap length whole ∙ length-drop at t
+  -- the text is cut behind the next one, too
+  pub next_cut : (m : ℕ) → NextMark (take (length t - at) (drop at t)) (Some m) → (at + (m + 2) ≤ length t) × Cut t (at + (m + 2))
+  next_cut m n =
+      let q : Mark t (at + m) = mark_moved m (rw whole at n.0) in
+      let e : at + m ≡ at + (m + 2) - 2 = omega arith in
+      (omega (arith, q.inside), inr (omega arith, rw e at q))
 
-    -- the text is cut behind the next one, too
-    pub next_cut : at + m < length t → (at + m + 2 ≤ length t) × Cut t (at + m + 2)
-    next_cut l =
-        let q : Mark t (at + m) = mark_moved m (rw whole at (n.here (omega (arith, long)))) in
-        let e : at + m ≡ at + m + 2 - 2 = omega arith in
-        (omega (arith, q.inside), inr (omega arith, rw e at q))
-
-    -- or there is none
-    pub none_behind : length t ≤ at + m → Rest t at
-    none_behind l = record { within = h; behind = k; unmarked = by }
-      where
-        by : (i : ℕ) → Mark (drop at t) i → ⊥
-        by i q = n.first i (omega (arith, q.inside, length-drop at t)) (rw whole q)
-
-  -- nor behind the end
-  pub none_at_end : length t ≤ at → Rest t at
-  none_at_end l = record { within = h; behind = k; unmarked = λ i q. absurd (omega (arith, q.inside, length-drop at t)) }
+  -- or there is none
+  pub none_behind : NextMark (take (length t - at) (drop at t)) None → Rest t at
+  none_behind n = record { within = h; behind = k; unmarked = rw whole at n }

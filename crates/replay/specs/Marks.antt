@@ -1,5 +1,6 @@
 -- Where a text of several images is cut: at its lines `=`.
-use Rattle.std.specs.Prelude.{◌≡◌, Bool, true, false, List, ◌⊎◌, ℕ, ◌+◌, ◌-◌, ◌<◌, ◌≤◌, length, get_or}
+use Rattle.std.specs.Prelude.{◌≡◌, Bool, true, false, List, ◌⊎◌, ℕ, ◌+◌, ◌-◌, ◌<◌, length, get_or, None, Some}
+use Rattle.std.specs.declared.option.Option.{Option}
 
 -- a line `=` begins at a place: the text's first or behind a newline (10), with the sign (61) and a newline
 pub record Mark (t : List ℕ) (i : ℕ) : Type 0 where
@@ -13,8 +14,7 @@ abbrev pub IsMark : Bool → List ℕ → ℕ → Type 0
 IsMark true t i = Mark t i
 IsMark false t i = Mark t i → ⊥
 
--- where the next one begins; the text's length where there is none
-pub record NextMark (t : List ℕ) (r : ℕ) : Type 0 where
-  pub within : r ≤ length t
-  pub here : r < length t → Mark t r
-  pub first : (i : ℕ) → i < r → Mark t i → ⊥
+-- where the next one begins, if there is one
+abbrev pub NextMark : List ℕ → Option ℕ → Type 0
+NextMark t None = (i : ℕ) → Mark t i → ⊥
+NextMark t (Some r) = Mark t r × ((i : ℕ) → i < r → Mark t i → ⊥)

@@ -1,6 +1,5 @@
 -- What is left of a text behind the images that were answered.
-use Rattle.std.specs.Prelude.{◌≡◌, Bool, ◌&&◌, not, List, [], ◌∷◌, ◌⊎◌, ℕ, ◌+◌, ◌-◌, ◌≤◌, ltb, eqb, length, take, drop, get_or, set}
-use Rattle.rules.specs.Choice.{if}
+use Rattle.std.specs.Prelude.{◌≡◌, List, [], ◌∷◌, ◌++◌, ◌⊎◌, ℕ, ◌-◌, ◌≤◌, cond, ltb, length, drop, get_or, slice_get, Some}
 use Rattle.mapping.specs.Answers.{text_room}
 use Rattle.replay.specs.Marks.{Mark}
 
@@ -14,23 +13,12 @@ pub record Rest (t : List ℕ) (r : ℕ) : Type 0 where
   pub behind : Cut t r
   pub unmarked : (i : ℕ) → Mark (drop r t) i → ⊥
 
--- what is kept of the first n bytes from a place on: all of them; or, where they are too many for an image, a line that is no frame (63 is `?`)
--- and the last two, with which a line `=` may begin
-unfoldable pub kept : ℕ → ℕ → List ℕ → List ℕ
-kept at n t = if (ltb (n - at) text_room) (take (n - at) (drop at t)) (63 ∷ get_or t (n - 2) 0 ∷ get_or t (n - 1) 0 ∷ [])
+-- what is kept of a text from a place on: all of it; or, where it is too much for an image, a line that is no frame (63 is `?`) and the last two
+-- bytes, with which a line `=` may begin
+abbrev pub kept : ℕ → List ℕ → List ℕ
+kept at t = cond (ltb (length t - at) text_room) (drop at t) (63 ∷ get_or t (length t - 2) 0 ∷ get_or t (length t - 1) 0 ∷ [])
 
--- it stands at the text's front
-pub record Kept (at n : ℕ) (t t' : List ℕ) (r : ℕ) : Type 0 where
-  pub count : r ≡ length (kept at n t)
-  pub front : take r t' ≡ kept at n t
-  pub few : r ≤ text_room
-
--- the last of the first n bytes is `=` (61)
-abbrev pub ends_in_mark : ℕ → List ℕ → Bool
-ends_in_mark n t = not (eqb n 0) && eqb (get_or t (n - 1) 0) 61
-
--- then a newline stands behind it
-pub record LineEnded (n : ℕ) (t t' : List ℕ) (r : ℕ) : Type 0 where
-  pub count : r ≡ if (ends_in_mark n t) (n + 1) n
-  pub same : t' ≡ if (ends_in_mark n t) (set t n 10) t
-  pub within : r ≤ length t'
+-- where the last byte is `=` (61), a newline is put behind it
+pub record LineEnded (t t' : List ℕ) : Type 0 where
+  pub ended : slice_get t (length t - 1) ≡ Some 61 → t' ≡ t ++ 10 ∷ []
+  pub left : (slice_get t (length t - 1) ≡ Some 61 → ⊥) → t' ≡ t

@@ -1,39 +1,34 @@
-// Makes the walks that are asked of each image of its input, by `one_function::walk_function`, and prints what comes of them.
-//
-// The crate `lines` has the form in which an image is read. A walk is five numbers of the list `w`: its start, its end, each with the
-// section before the address, and the length of the list that is lent for its result, up to 4,096. A known function is four numbers of
-// the list `n`: its entry and its end in the same way. Sections are counted from 1 here; 0 0 is no end.
-//
-// Printed are for each walk `R` and its number and, where that is 0:
-//
-//   A  1 if there is a function, else 0; prologue; epilogue; digits for a conditional `blr`, `rfi`, a load of r1
-//   B  start and end of a block
-//   C  a way on: from, to
-//   X  a reference
-//   J  address and size of a jump table
-//   P  a possible block
-//
-// An address has nine digits, its section's before the others; `-` is none. Last comes `L`: `zero` where the lent list is zero past what
-// was stored or, after 1 to 3, `untouched` where it is as it was before; else `changed`. `=` ends an image's walks.
+//! Makes the walks that are asked of each image of its input, by `one_function::walk_function`, and prints what comes of them.
+//!
+//! The crate `lines` has the form in which an image is read. A walk is five numbers of the list `w`: its start, its end, each with the
+//! section before the address, and the length of the list that is lent for its result, up to 4,096. A known function is four numbers of
+//! the list `n`: its entry and its end in the same way. Sections are counted from 1 here; 0 0 is no end.
+//!
+//! Printed are for each walk `R` and its number and, where that is 0:
+//!
+//!   A  1 if there is a function, else 0; prologue; epilogue; digits for a conditional `blr`, `rfi`, a load of r1
+//!   B  start and end of a block
+//!   C  a way on: from, to
+//!   X  a reference
+//!   J  address and size of a jump table
+//!   P  a possible block
+//!
+//! An address has nine digits, its section's before the others; `-` is none. Last comes `L`: `zero` where the lent list is zero past what
+//! was stored or, after 1 to 3, `untouched` where it is as it was before; else `changed`. `=` ends an image's walks.
 #![tactic(auto)]
 
 mod walks;
 
-use lines::{Bytes, Numbers, Space};
+use std::io::{self, BufWriter};
 
-fn main() {
-    let mut numbers: Numbers = [0; 400000];
-    let mut bytes: Bytes = [0; 300000];
-    let mut space: Space = [0; 4096];
-    let mut image = lines::begun();
-    // Nothing says that the input ends.
-    let mut turn: usize = 0;
-    while turn < 1000000 {
-        image = lines::next_image(&mut numbers, &mut bytes, &mut space, image);
-        if !image.ended {
-            return;
-        }
-        walks::answer(&numbers, &bytes, image);
-        turn += 1;
-    }
+fn main(rt: HostRuntime) -> io::Result<()> {
+    let alloc = rt.alloc();
+    let text = io::read_to_string(alloc, rt.reader())?;
+    let mut out = BufWriter::new(alloc, io::writer(&rt))?;
+    lines::answer_all(
+        alloc,
+        &text,
+        &mut out,
+        |out, image| walks::answer(alloc, out, image),
+    )
 }

@@ -1,318 +1,223 @@
-// The walks of an image, and their lines.
-ghost use Rattle.std.specs.Prelude.{◌≡◌, ◌≤◌, length};
+//! The walks of an image, and their lines.
+ghost use Rattle.std.specs.Prelude.{◌≡◌, ◌+◌, ◌*◌, ◌++◌, IfOk, vec_len};
 
-use lines::{Bytes, Numbers, State};
+use lines::Image;
 use one_function::Function;
+use std::alloc::{AllocError, Global};
+use std::fmt;
+use std::io::{self, Write};
 
-// The longest list that is lent for a result.
+/// The longest list that is lent for a result.
 const MOST: usize = 4096;
 
-// What the lent list holds before a walk at the index i: no zero, and nothing twice.
-fn filled(i: usize) -> u64 {
-    std::num::wrapping_add_u64(0x5A5A_0000_0000, i as u64)
+/// An address with its section's number before it; 0 is none.
+#[derive(Clone, Copy, Debug, PartialEq, Eq)]
+struct Key(u64);
+
+impl fmt::Display for Key {
+    fn fmt<W: fmt::Write>(&self, f: &mut fmt::Formatter<W>) -> fmt::Result {
+        match self.0 {
+            0 => f.write_str("-"),
+            key => write!(f, "{key:09x}"),
+        }
+    }
 }
 
-fn prefill(list: &mut [u64; 4096])
-    requires { length list.old ≡ 4096 }
-    ensures { length list.new ≡ 4096 }
+fn joined(section: u32, address: u32) -> u64
+    ensures { result ≡ section * 0x1_0000_0000 + address }
 {
-    let mut i: usize = 0;
-    while i < 4096 {
-        list[i] = filled(i);
-        i += 1;
+    u64::from(section) * 0x1_0000_0000 + u64::from(address)
+}
+
+/// A walk that is asked for, and how long the list is that is lent for its result.
+#[derive(Clone, Copy, Debug)]
+struct Asked {
+    start: u64,
+    end: u64,
+    room: usize,
+}
+
+// ---- the lent list
+
+/// What the lent list holds before a walk at an index: no zero, and nothing twice.
+fn filled(index: usize) -> u64 {
+    (index as u64).wrapping_add(0x5A5A_0000_0000)
+}
+
+/// A list to be lent.
+fn lent(alloc: Global, room: usize) -> Result<Vec<u64>, AllocError>
+    ensures { IfOk result (λ list. vec_len list ≡ room) }
+{
+    (0..room).map(filled).collect(alloc)
+}
+
+/// What is said of a lent list past what was stored in it.
+#[derive(Clone, Copy, Debug, PartialEq, Eq)]
+enum Rest {
+    Zero,
+    Untouched,
+    Changed,
+}
+
+impl fmt::Display for Rest {
+    fn fmt<W: fmt::Write>(&self, f: &mut fmt::Formatter<W>) -> fmt::Result {
+        f.write_str(match self {
+            Rest::Zero => "zero",
+            Rest::Untouched => "untouched",
+            Rest::Changed => "changed",
+        })
+    }
+}
+
+/// A walk that was refused before it began leaves the list as it was, any other one zeros.
+fn rest_of(number: u32, list: &[u64], rest: &[u64]) -> Rest {
+    match number {
+        1..=3 => {
+            if list
+                .iter()
+                .enumerate()
+                .all(|(index, value)| *value == filled(index))
+            {
+                Rest::Untouched
+            } else {
+                Rest::Changed
+            }
+        }
+        _ => {
+            if rest.iter().all(|value| *value == 0) {
+                Rest::Zero
+            } else {
+                Rest::Changed
+            }
+        }
     }
 }
 
 // ---- lines
 
-fn print_key(key: u64) {
-    if key == 0 {
-        io::write_all(1, b" -");
-    } else {
-        io::write_all(1, b" ");
-        io::print_hex(1, key, 9);
-    }
+/// The next `count` elements of what is left of a list.
+fn next_column<'a>(rest: &mut &'a [u64], count: usize) -> &'a [u64]
+    ensures { rest.old.now ≡ result.now ++ rest.new.now }
+{
+    let (column, after) = rest.split_at(count.min(rest.len()));
+    *rest = after;
+    column
 }
 
-fn print_digit(b: bool) {
-    if b {
-        io::write_all(1, b"1");
-    } else {
-        io::write_all(1, b"0");
+fn print_keys<W: Write>(out: &mut W, name: &str, keys: &[u64]) -> io::Result<()> {
+    for key in keys {
+        writeln!(out, "{name} {}", Key(*key))?;
     }
+    Ok(())
 }
 
-fn print_number(number: u32) {
-    io::write_all(1, b"R ");
-    if number < 10 {
-        io::write_all(1, b"0");
+fn print_pairs<W: Write>(out: &mut W, name: &str, froms: &[u64], tos: &[u64]) -> io::Result<()> {
+    for (from, to) in froms.iter().zip(tos) {
+        writeln!(out, "{name} {} {}", Key(*from), Key(*to))?;
     }
-    io::print_decimal(1, obj::sections::wide(number));
-    io::write_all(1, b"\n");
+    Ok(())
 }
 
-// What is no list.
-fn print_function(r: Function) {
-    io::write_all(1, b"A ");
-    print_digit(r.found);
-    print_key(r.prologue);
-    print_key(r.epilogue);
-    io::write_all(1, b" ");
-    print_digit(r.conditional);
-    print_digit(r.rfi);
-    print_digit(r.load);
-    io::write_all(1, b"\n");
+/// All lists; what stands behind them.
+fn print_lists<'a, W: Write>(out: &mut W, list: &'a [u64], r: &Function) -> io::Result<&'a [u64]> {
+    let mut rest = list;
+    let starts = next_column(&mut rest, r.blocks);
+    let ends = next_column(&mut rest, r.blocks);
+    print_pairs(out, "B", starts, ends)?;
+    let froms = next_column(&mut rest, r.branches);
+    let tos = next_column(&mut rest, r.branches);
+    print_pairs(out, "C", froms, tos)?;
+    let references = next_column(&mut rest, r.function_references);
+    print_keys(out, "X", references)?;
+    let tables = next_column(&mut rest, r.jump_table_references);
+    let sizes = next_column(&mut rest, r.jump_table_references);
+    for (table, size) in tables.iter().zip(sizes) {
+        writeln!(out, "J {} {size:08x}", Key(*table))?;
+    }
+    let possible = next_column(&mut rest, r.possible_blocks);
+    print_keys(out, "P", possible)?;
+    Ok(rest)
 }
 
-// The element at an index; 0 where there is none.
-fn element(list: &[u64], i: usize) -> u64 {
-    if i < list.len() {
-        return list[i];
-    }
-    0
+/// Whether a refusal says nothing else.
+fn is_bare(r: &Function) -> bool {
+    let counts = [
+        r.blocks,
+        r.branches,
+        r.function_references,
+        r.jump_table_references,
+        r.possible_blocks,
+    ];
+    let places = [r.prologue, r.epilogue];
+    let flags = [r.found, r.conditional, r.rfi, r.load];
+    counts.iter().all(|count| *count == 0)
+        && places.iter().all(|place| *place == 0)
+        && !flags.contains(&true)
 }
 
-// What stands in the second column: nothing, keys, or sizes, which have eight digits.
-const NOTHING: u32 = 0;
-
-const KEYS: u32 = 1;
-
-const SIZES: u32 = 2;
-
-fn print_second(kind: u32, value: u64) {
-    if kind == KEYS {
-        print_key(value);
+fn print_walk<W: Write>(out: &mut W, r: &Function, list: &[u64]) -> io::Result<()> {
+    let number = r.number;
+    writeln!(out, "R {number:02}")?;
+    let mut rest = list;
+    if number == 0 || !is_bare(r) {
+        writeln!(
+            out,
+            "A {} {} {} {}{}{}",
+            u8::from(r.found),
+            Key(r.prologue),
+            Key(r.epilogue),
+            u8::from(r.conditional),
+            u8::from(r.rfi),
+            u8::from(r.load)
+        )?;
+        rest = print_lists(out, list, r)?;
     }
-    if kind == SIZES {
-        io::write_all(1, b" ");
-        io::print_hex(1, value, 8);
-    }
-}
-
-// A column of `count` elements that begins at an index, and a second one behind it where there is one, row by row; the place past them.
-fn print_columns(name: &[u8], kind: u32, list: &[u64], at: usize, count: usize) -> usize {
-    let second = std::num::wrapping_add_usize(at, count);
-    let mut i: usize = 0;
-    while i < count {
-        io::write_all(1, name);
-        print_key(element(list, std::num::wrapping_add_usize(at, i)));
-        print_second(kind, element(list, std::num::wrapping_add_usize(second, i)));
-        io::write_all(1, b"\n");
-        i += 1;
-    }
-    if kind == NOTHING {
-        return second;
-    }
-    std::num::wrapping_add_usize(second, count)
-}
-
-// All lists; the place past them.
-fn print_lists(list: &[u64], r: Function) -> usize {
-    let branches = print_columns(b"B", KEYS, list, 0, r.blocks);
-    let references = print_columns(b"C", KEYS, list, branches, r.branches);
-    let tables = print_columns(b"X", NOTHING, list, references, r.function_references);
-    let possible = print_columns(b"J", SIZES, list, tables, r.jump_table_references);
-    print_columns(b"P", NOTHING, list, possible, r.possible_blocks)
-}
-
-// ---- the lent list
-
-fn is_zero_from(list: &[u64], at: usize) -> bool {
-    let mut i = at;
-    while i < list.len() {
-        if list[i] != 0 {
-            return false;
-        }
-        i += 1;
-    }
-    true
-}
-
-fn is_untouched(list: &[u64]) -> bool {
-    let mut i: usize = 0;
-    while i < list.len() {
-        if list[i] != filled(i) {
-            return false;
-        }
-        i += 1;
-    }
-    true
-}
-
-fn print_rest(number: u32, list: &[u64], past: usize) {
-    if (1 <= number) & (number <= 3) {
-        if is_untouched(list) {
-            io::write_all(1, b"L untouched\n");
-            return;
-        }
-    } else {
-        if is_zero_from(list, past) {
-            io::write_all(1, b"L zero\n");
-            return;
-        }
-    }
-    io::write_all(1, b"L changed\n");
+    writeln!(out, "L {}", rest_of(number, list, rest))
 }
 
 // ---- walks
 
-// Whether a refusal says nothing else.
-fn is_bare(r: Function) -> bool {
-    let counts = r.blocks
-        | r.branches
-        | r.function_references
-        | r.jump_table_references
-        | r.possible_blocks;
-    let places = r.prologue | r.epilogue;
-    let flags = r.found | r.conditional | r.rfi | r.load;
-    (counts == 0) & (places == 0) & !flags
-}
-
-fn print_walk(r: Function, list: &[u64]) {
-    print_number(r.number);
-    let mut past: usize = 0;
-    if (r.number == 0) | !is_bare(r) {
-        print_function(r);
-        past = print_lists(list, r);
-    }
-    print_rest(r.number, list, past);
-}
-
-fn key(high: u32, low: u32) -> u64 {
-    obj::sections::wide(high) * 0x1_0000_0000 + obj::sections::wide(low)
-}
-
-// The keys that a list's halves make, as far as there is room; how many.
-fn join(halves: &[u32], keys: &mut [u64; 4096]) -> usize
-    requires { length keys.old ≡ 4096 }
-    ensures { (result ≤ 4096) × (length keys.new ≡ 4096) }
-{
-    let mut at: usize = 0;
-    let mut n: usize = 0;
-    while 2 <= halves.len() - at {
-        if 4096 <= n {
-            return n;
-        }
-        keys[n] = key(halves[at], halves[at + 1]);
-        at += 2;
-        n += 1;
-    }
-    n
-}
-
-// The length that is lent of the list.
-fn room_of(number: u32) -> usize
-    ensures { result ≤ 4096 }
-{
-    let r = number as usize;
-    if r < MOST {
-        return r;
-    }
-    MOST
-}
-
-fn make_walk(
-    sections: &[u32],
-    bytes: &[u8],
-    outcomes: &[u32],
-    functions: &[u32],
-    objects: &[u32],
-    skips: &[u32],
-    entry: &[u32],
+fn walk(
+    alloc: Global,
+    image: &Image,
     known: &[u64],
-    start: u64,
-    end: u64,
-    list: &mut [u64],
-) {
-    let r = one_function::walk_function(
-        sections, bytes, outcomes, functions, objects, skips, entry, known, start, end, list,
-    );
-    print_walk(r, list);
-}
-
-// The walk that five numbers ask for.
-fn make_asked(
-    sections: &[u32],
-    bytes: &[u8],
-    outcomes: &[u32],
-    functions: &[u32],
-    objects: &[u32],
-    skips: &[u32],
-    entry: &[u32],
-    known: &[u64],
-    walk: [u32; 5],
-) {
-    let start = key(walk[0], walk[1]);
-    let end = key(walk[2], walk[3]);
-    let room = room_of(walk[4]);
-    let mut list: [u64; 4096] = [0; 4096];
-    prefill(&mut list);
-    make_walk(
-        sections,
-        bytes,
-        outcomes,
-        functions,
-        objects,
-        skips,
-        entry,
+    asked: Asked,
+) -> Result<(Function, Vec<u64>), AllocError> {
+    let mut list = lent(alloc, asked.room)?;
+    let function = one_function::walk_function(
+        &image.sections,
+        &image.bytes,
+        &image.outcomes,
+        &image.functions,
+        &image.objects,
+        &image.skips,
+        &image.entry,
         known,
-        start,
-        end,
-        &mut list[..room],
+        asked.start,
+        asked.end,
+        &mut list,
     );
+    Ok((function, list))
 }
 
-fn make_walks(
-    sections: &[u32],
-    bytes: &[u8],
-    outcomes: &[u32],
-    functions: &[u32],
-    objects: &[u32],
-    skips: &[u32],
-    entry: &[u32],
-    halves: &[u32],
-    walks: &[u32],
-) {
-    let mut known: [u64; 4096] = [0; 4096];
-    let n = join(halves, &mut known);
-    let mut at: usize = 0;
-    while 5 <= walks.len() - at {
-        let walk = [
-            walks[at],
-            walks[at + 1],
-            walks[at + 2],
-            walks[at + 3],
-            walks[at + 4],
-        ];
-        make_asked(
-            sections,
-            bytes,
-            outcomes,
-            functions,
-            objects,
-            skips,
-            entry,
-            &known[..n],
-            walk,
-        );
-        at += 5;
+/// The answer of an image: its walks, in order.
+pub fn answer<W: Write>(alloc: Global, out: &mut W, image: &Image) -> io::Result<()> {
+    let mut known = Vec::new(alloc);
+    for halves in image.known.chunks_exact(2) {
+        if let [section, address] = halves {
+            known.push(joined(*section, *address))?;
+        }
     }
-}
-
-// The answer of an image that was read.
-pub fn answer(numbers: &Numbers, bytes: &Bytes, image: State) {
-    if lines::is_whole(image) {
-        make_walks(
-            lines::list(numbers, image, 0),
-            lines::byte_list(bytes, image),
-            lines::list(numbers, image, 1),
-            lines::list(numbers, image, 2),
-            lines::list(numbers, image, 3),
-            lines::list(numbers, image, 4),
-            lines::list(numbers, image, 5),
-            lines::list(numbers, image, 6),
-            lines::list(numbers, image, 7),
-        );
+    for row in image.walks.chunks_exact(5) {
+        if let [start_section, start, end_section, end, room] = row {
+            let asked = Asked {
+                start: joined(*start_section, *start),
+                end: joined(*end_section, *end),
+                room: (*room as usize).min(MOST),
+            };
+            let (function, list) = walk(alloc, image, &known, asked)?;
+            print_walk(out, &function, &list)?;
+        }
     }
-    io::write_all(1, b"=\n");
+    Ok(())
 }

@@ -4,8 +4,8 @@ use lib.ListN.{length}
 use Rattle.replay.specs.Rest.{Cut}
 use Rattle.replay.proofs.answer_ended.Given as goal
 
-abbrev pub invariant-loop-at : goal.invariant-loop-at
-invariant-loop-at l = (l.at ≤ length l.text) × Cut l.text l.at × (length l.out ≡ 1489000)
+abbrev pub invariant-loop-end : goal.invariant-loop-end
+invariant-loop-end g l = (l.at ≤ length l.text) × Cut l.text l.at × (length l.map ≡ 1489000)
 
-abbrev pub decreases-loop-at : goal.decreases-loop-at
-decreases-loop-at l = length l.text - l.at
+abbrev pub decreases-loop-end : goal.decreases-loop-end
+decreases-loop-end g l = length l.text - l.at

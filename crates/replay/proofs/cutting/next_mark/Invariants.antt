@@ -1,10 +1,6 @@
-use Prim.Native.Nat.{◌-◌}
-use lib.ListN.{length}
-use Rattle.replay.proofs.Marking.{Searched}
+use Rattle.std.proofs.Common.{ℕ, ◌<◌}
+use Rattle.replay.specs.Marks.{Mark}
 use Rattle.replay.proofs.cutting.next_mark.Given as goal
 
 abbrev pub invariant-loop-i : goal.invariant-loop-i
-invariant-loop-i l = Searched l.text l.i
-
-abbrev pub decreases-loop-i : goal.decreases-loop-i
-decreases-loop-i l = length l.text - l.i
+invariant-loop-i l = (k : ℕ) → k < l.i → Mark l.text k → ⊥
