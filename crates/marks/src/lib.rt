@@ -158,9 +158,8 @@ pub fn mark(ss: &mut [u64], es: &mut [u64], count: usize, addr: u64) -> Marking
     }
 }
 
-// The same for C: the number is the result, and the count and the answer are written through.
-#[unsafe(no_mangle)]
-pub extern "C" fn blocks_mark(
+// The same as C takes it: the number is the result, and the count and the answer are written through.
+pub fn blocks_mark(
     ss: &mut [u64],
     es: &mut [u64],
     len: usize,

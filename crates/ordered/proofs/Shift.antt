@@ -37,8 +37,8 @@ module _ (old : List ℕ) (n j : ℕ) (xs : List ℕ) (lt : j < n) (room : n < l
             ∙ ap (λ (r : List ℕ). take j old ++ (v ∷ (r ++ drop (suc n) old))) (sym (slice-cons j n old 0 lt (omega arith)));
       }
 
-pub moved_step : (old : List ℕ) (n k j : ℕ) (xs : List ℕ) → k ≡ suc j → k ≤ n → n < length old → Moved old n k xs → Moved old n j (set xs k (get_or xs j 0))
-moved_step old n k j xs e le room m = rw e (moved_suc old n j xs (omega arith) room (rw e at m))
+pub moved_step : (old : List ℕ) (n k j t : ℕ) (xs : List ℕ) → k ≡ suc j → t ≡ suc j → k ≤ n → n < length old → Moved old n k xs → Moved old n j (set xs t (get_or xs j 0))
+moved_step old n k j t xs e et le room m = rw et (moved_suc old n j xs (omega arith) room (rw e at m))
 
 pub moved_end : (old : List ℕ) (n i v : ℕ) (xs : List ℕ) → i ≤ n → n < length old → Moved old n i xs → Inserted old (set xs i v) n i v
 moved_end old n i v xs le room m =
@@ -119,5 +119,5 @@ closed_last old n i k xs e lt room m =
         let e' : k + 1 ≡ suc k = add-one k in
         rw (e, ← e') (sym (drop-drop 1 k xs) ∙ ap (drop 1) m.left ∙ drop-drop 1 k old)
 
-pub closed_end : (old : List ℕ) (n i k m : ℕ) (xs : List ℕ) → k ≡ m → n ≡ suc m → i < n → n ≤ length old → Closed old n i k xs → Removed old (set xs k 0) n i m
-closed_end old n i k m xs same e lt room c = rw same (closed_last old n i m xs e lt room (rw same at c))
+pub closed_end : (old : List ℕ) (n i k m : ℕ) (xs : List ℕ) → k ≡ m → n ≡ suc m → i < n → n ≤ length old → Closed old n i k xs → Removed old (set xs m 0) n i m
+closed_end old n i k m xs same e lt room c = closed_last old n i m xs e lt room (rw same at c)

@@ -1,14 +1,12 @@
 -- A branch's distance: its sign by cases, its size, and its sum with an address in 32 bits. Assumes nothing.
 use Prim.Native.Nat.{ℕ, suc, ◌+◌, ◌*◌, ◌-◌, ◌%◌, ◌≤◌, ◌<◌}
-use mathlib.Core.Path.{◌≡◌, refl, sym, ◌∙◌, ap}
+use mathlib.Core.Path.{◌≡◌, sym, ◌∙◌, ap}
 use native.Mathlib.Omega.{arith}
 use native.Mathlib.Decide.{dec_lt}
 use borrow.Author.Tests.{lt-ltb, le-ltb}
-use lib.IntN.{ℤ, pos, negsuc, neg_ℤ, nat_abs, sub_ℕ, ◌+ℤ◌, ◌-ℤ◌, ◌*ℤ◌}
-use lib.Dec.{T}
-use lib.Signed.{non_neg}
-use mir.Syntax.{w32, w64}
-use mir.Val.{Fits, SFits, to_z, of_z}
+use lib.IntN.{ℤ, pos, negsuc, neg_ℤ, sub_ℕ, ◌+ℤ◌, ◌-ℤ◌, ◌*ℤ◌}
+use mir.Syntax.{w32}
+use mir.Val.{SFits, to_z, of_z}
 use mir.Facts.{to_z_pos, to_z-of_z}
 use Rattle.rules.specs.Choice.{if, if_true, if_false}
 use Rattle.rules.specs.Words.{field}
@@ -89,60 +87,18 @@ module _ (w : ℕ) (z : ℤ) (fits : SFits w32 z) (is : z ≡ branch_words w) wh
   pub four_counts : to_z w32 (of_z w32 (pos 4 *ℤ to_z w32 (of_z w32 z))) ≡ branch_distance w
   four_counts = to_z-of_z four_counts_fit ∙ four
 
--- a distance and 2^32, which is above 0
-abbrev raised : ℤ → ℕ
-raised (pos n) = n + 4294967296
-raised (negsuc n) = 4294967295 - n
-
-module _ (d : ℤ) (fits : SFits w32 d) where
-  raised_is : d +ℤ pos 4294967296 ≡ pos (raised d)
-  raised_is = by d fits
-    where
-      by : (z : ℤ) → SFits w32 z → z +ℤ pos 4294967296 ≡ pos (raised z)
-      by (pos n) f = refl
-      by (negsuc n) f =
-          let k : suc n ≤ 4294967296 = omega (arith, f.sfits) in
-          let e : 4294967296 - suc n ≡ 4294967295 - n = omega arith in
-          rw (le-ltb _ _ k, e)
-
-  raised_below : raised d < 8589934592
-  raised_below = by d fits
-    where
-      by : (z : ℤ) → SFits w32 z → raised z < 8589934592
-      by (pos n) f = omega (arith, f.sfits)
-      by (negsuc n) f = omega arith
-
-  pub wider : SFits w64 (to_z w32 (of_z w32 d))
-  wider = rw (to_z-of_z fits) (by d fits)
-    where
-      by : (z : ℤ) → SFits w32 z → SFits w64 z
-      by (pos n) f = record { sfits = omega (arith, f.sfits) }
-      by (negsuc n) f = record { sfits = omega (arith, f.sfits) }
-
-  same : to_z w64 (of_z w64 (to_z w32 (of_z w32 d))) ≡ d
-  same = to_z-of_z wider ∙ to_z-of_z fits
-
-  pub sum_fits : SFits w64 (to_z w64 (of_z w64 (to_z w32 (of_z w32 d))) +ℤ pos 4294967296)
-  sum_fits = rw (same, raised_is) (record { sfits = omega (arith, raised_below) })
-
-  sum_is : to_z w64 (of_z w64 (to_z w64 (of_z w64 (to_z w32 (of_z w32 d))) +ℤ pos 4294967296)) ≡ pos (raised d)
-  sum_is = to_z-of_z sum_fits ∙ rw same raised_is
-
-  pub sum_unsigned : T (non_neg (to_z w64 (of_z w64 (to_z w64 (of_z w64 (to_z w32 (of_z w32 d))) +ℤ pos 4294967296)))) × Fits w64 (nat_abs (to_z w64 (of_z w64 (to_z w64 (of_z w64 (to_z w32 (of_z w32 d))) +ℤ pos 4294967296))))
-  sum_unsigned = rw sum_is (tt, record { fits = omega (arith, raised_below) })
-
-  module _ (a : ℕ) (small : a < 4294967296) where
-    pub total_fits : Fits w64 (nat_abs (to_z w64 (of_z w64 (to_z w64 (of_z w64 (to_z w32 (of_z w32 d))) +ℤ pos 4294967296))) + a)
-    total_fits = rw sum_is (record { fits = omega (arith, raised_below) })
-
-    pub moved_is : (nat_abs (to_z w64 (of_z w64 (to_z w64 (of_z w64 (to_z w32 (of_z w32 d))) +ℤ pos 4294967296))) + a) % 4294967296 ≡ in_32_bits (pos a +ℤ d)
-    moved_is = rw (sum_is, sum_in_32_bits a d) (by d fits)
-      where
-        by : (z : ℤ) → SFits w32 z → (raised z + a) % 4294967296 ≡ (a + in_32_bits z) % 4294967296
-        by (pos n) f = omega arith
-        by (negsuc n) f = let k : n % 4294967296 ≡ n = omega (arith, f.sfits) in omega arith
+-- a distance's bits, added to an address
+bits_added : (a : ℕ) (d : ℤ) → SFits w32 d → (a + of_z w32 d) % 4294967296 ≡ in_32_bits (pos a +ℤ d)
+bits_added a d fits = by d fits ∙ sym (sum_in_32_bits a d)
+  where
+    by : (z : ℤ) → SFits w32 z → (a + of_z w32 z) % 4294967296 ≡ (a + in_32_bits z) % 4294967296
+    by (pos n) f = omega arith
+    by (negsuc n) f = let k : n % 4294967296 ≡ n = omega (arith, f.sfits) in omega (arith, f.sfits)
 
 -- o is where the distance d counts from
-pub dest_is : (w a o : ℕ) (d : ℤ) (r : ℕ) → o ≡ if (is_absolute w) 0 a → d ≡ branch_distance w → r ≡ in_32_bits (pos o +ℤ d) → r ≡ branch_dest w a
+pub dest_is : (w a o : ℕ) (d : ℤ) (r : ℕ) → o ≡ if (is_absolute w) 0 a → d ≡ branch_distance w → r ≡ (o + of_z w32 (to_z w32 (of_z w32 d))) % 4294967296 → r ≡ branch_dest w a
 unfolding branch_dest
-dest_is w a o d r eo ed s = s ∙ rw (eo, ed)
+dest_is w a o d r eo ed e =
+    let f : SFits w32 d = rw ed (distance_fits w) in
+    let same : to_z w32 (of_z w32 d) ≡ d = to_z-of_z f in
+    let r_is : r ≡ in_32_bits (pos o +ℤ d) = (rw same at e) ∙ bits_added o d f in r_is ∙ rw (eo, ed)

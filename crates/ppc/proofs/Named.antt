@@ -8,7 +8,7 @@ use borrow.Author.Tests.{eq-eqb, ne_eqb}
 use lib.ListN.{get_or}
 use lib.Dec.{leb, eqb, leb-suc-zero, leb-suc-suc, eqb-suc-zero, eqb-suc-suc}
 use Rattle.rules.specs.Choice.{if, any}
-use Rattle.rules.specs.Words.{field, primary, extended, is_branch, field_d, field_a, field_b}
+use Rattle.rules.specs.Words.{primary, extended, is_branch, field_d, field_a, field_b}
 use Rattle.rules.specs.Registers.{Field, register, registers, fields_named, fields_in, primary_table, extended_rows}
 use Rattle.ppc.specs.Codes.{bit, with, fields_of_code, low_register, is_branch_primary, is_branch_extended, IsPrimary, IsCode, digit, extended_codes, branch_bits}
 use Rattle.ppc.proofs.Table.{fields_at, branch_at}
@@ -45,14 +45,9 @@ unfolding with if
 low_with true f fs w = any_append (λ r. leb r 1) (register f w) (registers fs w)
 low_with false f fs w = refl
 
-code_low : (c w : ℕ) → (bit 0 c && leb (field_d w) 1 || bit 1 c && leb (field_a w) 1 || bit 2 c && eqb (field_a w) 1 || bit 3 c && leb (field_b w) 1) ≡ low_register (fields_of_code c) w
+pub code_low : (c w : ℕ) → (bit 0 c && leb (field_d w) 1 || bit 1 c && leb (field_a w) 1 || bit 2 c && eqb (field_a w) 1 || bit 3 c && leb (field_b w) 1) ≡ low_register (fields_of_code c) w
 unfolding fields_of_code
 code_low c w = simp (low_with, one, one_or_0, or_assoc, or-false)
-
--- the same of what the code holds: the bits and the fields
-pub low_is : (c w i j k l d a b : ℕ) → i ≡ field 0 1 c → j ≡ field 1 1 c → k ≡ field 2 1 c → l ≡ field 3 1 c → d ≡ field_d w → a ≡ field_a w → b ≡ field_b w
-    → (eqb i 1 && leb d 1 || eqb j 1 && leb a 1 || eqb k 1 && eqb a 1 || eqb l 1 && leb b 1) ≡ low_register (fields_of_code c) w
-low_is c w i j k l d a b ei ej ek el ed ea eb = rw (ei, ej, ek, el, ed, ea, eb) (code_low c w)
 
 pub primary_below : (w : ℕ) → primary w < 64
 unfolding primary
@@ -67,31 +62,30 @@ no_fields : fields_in primary_table 19 ≡ []
 unfolding primary_table if
 no_fields = refl
 
--- the code of a word, by its primary opcode, in the form of a contract: p and x are the word's opcodes, j is a place in a table, t what
--- lies there
+-- the code of a word, by its primary opcode, in the form of a contract: p and x are the word's opcodes, t what lies in a table, d a digit
 module _ (w x : ℕ) (q : x ≡ extended w) where
-  pub row_below : (j : ℕ) → j ≡ x / 16 → j < 64
-  row_below j e = omega (arith, extended_below w)
+  pub row_below : x / 16 < 64
+  row_below = omega (arith, extended_below w)
 
-  pub bits_below : (j : ℕ) → j ≡ x / 64 → j < 16
-  bits_below j e = omega (arith, extended_below w)
+  pub bits_below : x / 64 < 16
+  bits_below = omega (arith, extended_below w)
 
-  module _ (p j t d : ℕ) (o : p ≡ primary w) where
-    pub code_31 : p ≡ 31 → j ≡ x / 16 → t ≡ get_or extended_codes j 0 → d ≡ digit 4 (x % 16) t → IsCode w d
+  module _ (p t d : ℕ) (o : p ≡ primary w) where
+    pub code_31 : p ≡ 31 → t ≡ get_or extended_codes (x / 16) 0 → d ≡ digit 4 (x % 16) t → IsCode w d
     unfolding fields_named is_branch if
-    code_31 k ej et ed =
+    code_31 k et ed =
         let h : primary w ≡ 31 = sym o ∙ k in
-        let e : d ≡ digit 4 (x % 16) (get_or extended_codes (x / 16) 0) = ed ∙ ap (digit 4 (x % 16)) (et ∙ ap (λ (i : ℕ). get_or extended_codes i 0) ej) in
+        let e : d ≡ digit 4 (x % 16) (get_or extended_codes (x / 16) 0) = ed ∙ ap (digit 4 (x % 16)) et in
         let r : fields_of_code d ≡ fields_in extended_rows (extended w) = rw e (fields_at x (rw q (extended_below w))) ∙ ap (fields_in extended_rows) q in
         let s : d < 16 = omega arith in
         let b : d / 2 ^ 4 % 2 ^ 1 ≡ 0 = omega arith in
         record { fields = rw (eq-eqb _ _ h) r; branch = rw (h, b) refl; small = omega arith }
 
-    pub code_19 : p ≡ 19 → j ≡ x / 64 → t ≡ get_or branch_bits j 0 → d ≡ digit 1 (x % 64) t → IsCode w (16 * d)
+    pub code_19 : p ≡ 19 → t ≡ get_or branch_bits (x / 64) 0 → d ≡ digit 1 (x % 64) t → IsCode w (16 * d)
     unfolding fields_named is_branch is_branch_extended fields_of_code with if
-    code_19 k ej et ed =
+    code_19 k et ed =
         let h : primary w ≡ 19 = sym o ∙ k in
-        let e : d ≡ digit 1 (x % 64) (get_or branch_bits (x / 64) 0) = ed ∙ ap (digit 1 (x % 64)) (et ∙ ap (λ (i : ℕ). get_or branch_bits i 0) ej) in
+        let e : d ≡ digit 1 (x % 64) (get_or branch_bits (x / 64) 0) = ed ∙ ap (digit 1 (x % 64)) et in
         let r : eqb d 1 ≡ is_branch_extended (extended w) = rw e (branch_at x (rw q (extended_below w))) ∙ ap is_branch_extended q in
         let s : d < 2 = omega arith in
         let b : 16 * d / 2 ^ 4 % 2 ^ 1 ≡ d = omega arith in
@@ -102,13 +96,10 @@ module _ (w x : ℕ) (q : x ≡ extended w) where
         none (suc zero) k = refl
         none (suc (suc d)) k = absurd (omega arith)
 
-pub place_below : (w p j : ℕ) → p ≡ primary w → j ≡ p → j < 64
-place_below w p j o e = rw (e ∙ o) (primary_below w)
-
-pub code_other : (w p j k c : ℕ) → p ≡ primary w → (p ≡ 31 → ⊥) → (p ≡ 19 → ⊥) → j ≡ p → IsPrimary j k → c ≡ k → IsCode w c
+pub code_other : (w p c : ℕ) → p ≡ primary w → (p ≡ 31 → ⊥) → (p ≡ 19 → ⊥) → IsPrimary p c → IsCode w c
 unfolding fields_named is_branch is_branch_primary if
-code_other w p j k c o h g q e same =
-    let r = subst (IsPrimary (primary w)) (sym same) (subst (λ (y : ℕ). IsPrimary y k) (q ∙ o) e) in
+code_other w p c o h g e =
+    let r = subst (λ (y : ℕ). IsPrimary y c) o e in
     record {
       fields = rw (ne_eqb _ _ (λ i. h (o ∙ i))) r.fields;
       branch = rw (ne_eqb (primary w) 19 (λ i. g (o ∙ i))) (r.branch ∙ rest (eqb (primary w) 16) (eqb (primary w) 18));

@@ -1,9 +1,9 @@
 // The target of a direct branch.
-ghost use Rattle.std.specs.Prelude.{◌≡◌, pos, ◌+ℤ◌};
+ghost use Rattle.std.specs.Prelude.{◌≡◌};
 ghost use Rattle.rules.specs.Choice.{if};
 ghost use Rattle.rules.specs.Branches as rules;
 
-use crate::fields::field;
+use crate::fields::{bit, field};
 
 // Bits 6 to 29, a signed count of words.
 pub fn branch_words(w: u32) -> i32
@@ -11,9 +11,10 @@ pub fn branch_words(w: u32) -> i32
 {
     let x = field(w, 2, 24);
     if x < 0x80_0000 {
-        return x as i32;
+        x as i32
+    } else {
+        x as i32 - 0x100_0000
     }
-    x as i32 - 0x100_0000
 }
 
 // The same in bytes.
@@ -24,34 +25,24 @@ pub fn branch_distance(w: u32) -> i32
 }
 
 // Bit 30: the count is from 0.
+#[tactic(auto, unfolding(rules::specs::Branches::is_absolute))]
 pub fn is_absolute(w: u32) -> bool
     ensures { result ≡ rules.is_absolute w }
 {
-    field(w, 1, 1) == 1
+    bit(w, 1)
 }
 
 // Where the distance counts from.
 fn origin(w: u32, addr: u32) -> u32
     ensures { result ≡ if (rules.is_absolute w) 0 addr }
 {
-    if is_absolute(w) {
-        return 0;
-    }
-    addr
+    if is_absolute(w) { 0 } else { addr }
 }
 
-// An address moved by a signed distance, in 32 bits.
-fn moved(a: u32, d: i32) -> u32
-    ensures { result ≡ rules.in_32_bits (pos a +ℤ d) }
-{
-    // 2^32 more keeps the sum from falling below 0, and changes nothing in 32 bits.
-    let t = (d as i64 + 0x1_0000_0000) as u64 + a as u64;
-    (t % 0x1_0000_0000) as u32
-}
-
-// The target of the branch w at the address addr: the distance, which may be negative, added to the address that it counts from.
+// The target of the branch w at the address addr: the distance, which may be negative, added to the address that it counts from, in
+// 32 bits.
 pub fn branch_dest(w: u32, addr: u32) -> u32
     ensures { result ≡ rules.branch_dest w addr }
 {
-    moved(origin(w, addr), branch_distance(w))
+    origin(w, addr).wrapping_add_signed(branch_distance(w))
 }

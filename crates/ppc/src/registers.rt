@@ -1,12 +1,12 @@
 // What an opcode says of its words: a small code for each, in two constant tables.
 // A code's bits are 1: rD (or rS) names a register, 2: rA, 4: rA unless it is 0, 8: rB, 16: a branch. The codes are those of the
 // rows of rules' Registers and of rules' is_branch.
-ghost use Rattle.std.specs.Prelude.{◌≡◌, ◌<◌, get_or};
+ghost use Rattle.std.specs.Prelude.{◌≡◌, ◌*◌, ◌<◌, get_or};
 ghost use Rattle.rules.specs.Registers as rules;
 ghost use Rattle.rules.specs.Words as words;
 ghost use Rattle.ppc.specs.Codes.{IsPrimary, IsCode, fields_of_code, low_register, digit, extended_codes, branch_bits};
 
-use crate::fields::{extended, field, field_ra, field_rb, field_rd, opcode};
+use crate::fields::{bit, extended, field_ra, field_rb, field_rd, opcode};
 
 // By primary opcode; 19 and 31 go on by extended opcode.
 const PRIMARY: [u8; 64] = [
@@ -148,68 +148,45 @@ const EXTENDED: [u64; 64] = [
 // By extended opcode under 19: a bit for each, set for a branch.
 const BRANCHES: [u64; 16] = [0x1_0000, 0, 0, 0, 0, 0, 0, 0, 0x1_0000, 0, 0, 0, 0, 0, 0, 0];
 
-fn primary_code(x: usize) -> u8
-    requires { x < 64 }
-    ensures { IsPrimary x result }
+fn primary_code(p: u32) -> u32
+    requires { p < 64 }
+    ensures { IsPrimary p result }
 {
-    PRIMARY[x]
+    u32::from(PRIMARY[p as usize])
 }
 
-fn extended_codes(j: usize) -> u64
+fn extended_codes(j: u32) -> u64
     requires { j < 64 }
     ensures { result ≡ get_or extended_codes j 0 }
 {
-    EXTENDED[j]
+    EXTENDED[j as usize]
 }
 
-fn branch_bits(j: usize) -> u64
+fn branch_bits(j: u32) -> u64
     requires { j < 16 }
     ensures { result ≡ get_or branch_bits j 0 }
 {
-    BRANCHES[j]
+    BRANCHES[j as usize]
 }
 
-// Digit `index` of a number, of four bits.
-fn hex_digit(number: u64, index: u32) -> u32
-    requires { index < 16 }
-    ensures { result ≡ digit 4 index number }
+// Digit `index` of a number, of BITS bits.
+fn digit<const BITS: u32>(number: u64, index: u32) -> u32
+    requires { (BITS < 32) × (BITS * index < 64) }
+    ensures { result ≡ digit BITS index number }
 {
-    ((number >> (4 * index) as u64) % 16) as u32
-}
-
-// Bit `index` of a number.
-fn bit_of(number: u64, index: u32) -> u32
-    requires { index < 64 }
-    ensures { result ≡ digit 1 index number }
-{
-    ((number >> index as u64) % 2) as u32
-}
-
-fn wide(x: u32) -> usize
-    ensures { result ≡ x }
-{
-    x as usize
-}
-
-fn number(x: u8) -> u32
-    ensures { result ≡ x }
-{
-    x as u32
+    ((number >> (BITS * index)) & ((1 << BITS) - 1)) as u32
 }
 
 // The code of a word's opcode.
 pub fn code(w: u32) -> u32
     ensures { IsCode w result }
 {
-    let p = opcode(w);
     let x = extended(w);
-    if p == 31 {
-        return hex_digit(extended_codes(wide(x / 16)), x % 16);
+    match opcode(w) {
+        31 => digit::<4>(extended_codes(x / 16), x % 16),
+        19 => 16 * digit::<1>(branch_bits(x / 64), x % 64),
+        p => primary_code(p),
     }
-    if p == 19 {
-        return 16 * bit_of(branch_bits(wide(x / 64)), x % 64);
-    }
-    number(primary_code(wide(p)))
 }
 
 // The fields of a word that name registers, as a code.
@@ -223,7 +200,7 @@ pub fn register_fields(w: u32) -> u32
 pub fn is_branch(w: u32) -> bool
     ensures { result ≡ words.is_branch w }
 {
-    field(code(w), 4, 1) == 1
+    bit(code(w), 4)
 }
 
 // Whether a field of a word that the code c says to name a register names r0 or r1.
@@ -231,13 +208,14 @@ pub fn names_low(c: u32, w: u32) -> bool
     ensures { result ≡ low_register (fields_of_code c) w }
 {
     let a = field_ra(w);
-    ((field(c, 0, 1) == 1) & (field_rd(w) <= 1))
-        | ((field(c, 1, 1) == 1) & (a <= 1))
-        | ((field(c, 2, 1) == 1) & (a == 1))
-        | ((field(c, 3, 1) == 1) & (field_rb(w) <= 1))
+    (bit(c, 0) & (field_rd(w) <= 1))
+        | (bit(c, 1) & (a <= 1))
+        | (bit(c, 2) & (a == 1))
+        | (bit(c, 3) & (field_rb(w) <= 1))
 }
 
 // A word that names r0 or r1.
+#[tactic(auto, unfolding(rules::specs::Registers::names_r0_or_r1, rules::specs::Registers::registers_named))]
 pub fn names_r0_or_r1(w: u32) -> bool
     ensures { result ≡ rules.names_r0_or_r1 w }
 {

@@ -1,25 +1,19 @@
 // Instruction words: reading one, and tests of one.
-ghost use Rattle.std.specs.Prelude.{◌≡◌, ◌∷◌, ◌+◌, ◌≤◌, ◌<◌, length, drop};
+ghost use Rattle.std.specs.Prelude.{◌≡◌, ◌∷◌, ◌+◌, ◌≤◌, ◌==◌, ◌&&◌, length, drop};
 ghost use Rattle.rules.specs.Bytes.{words_in};
 ghost use Rattle.rules.specs.Words as rules;
 
-use crate::fields::{extended, field, field_bo, field_ra, field_rd, field_spr, opcode};
-
-fn wide(b: u8) -> u32
-    ensures { (result ≡ b) × (result < 256) }
-{
-    b as u32
-}
+use crate::fields::{bit, extended, field_bo, field_ra, field_rd, field_spr, opcode};
 
 // The word whose first byte is at an offset: the next one of the words from there.
 pub fn word_at(bytes: &[u8], at: usize) -> u32
     requires { at + 4 ≤ length bytes.now }
     ensures { words_in (drop at bytes.now) ≡ result ∷ words_in (drop (at + 4) bytes.now) }
 {
-    let high = wide(bytes[at]) * 256 + wide(bytes[at + 1]);
-    (high * 256 + wide(bytes[at + 2])) * 256 + wide(bytes[at + 3])
+    u32::from_be_bytes([bytes[at], bytes[at + 1], bytes[at + 2], bytes[at + 3]])
 }
 
+#[tactic(auto, unfolding(rules::specs::Words::is_blr))]
 pub fn is_blr(w: u32) -> bool
     ensures { result ≡ rules.is_blr w }
 {
@@ -27,6 +21,7 @@ pub fn is_blr(w: u32) -> bool
 }
 
 // ori r0, r0, 0
+#[tactic(auto, unfolding(rules::specs::Words::is_nop))]
 pub fn is_nop(w: u32) -> bool
     ensures { result ≡ rules.is_nop w }
 {
@@ -40,6 +35,7 @@ pub fn is_ext(w: u32, p: u32, x: u32) -> bool
     (opcode(w) == p) & (extended(w) == x)
 }
 
+#[tactic(auto, unfolding(rules::specs::Words::is_rfi))]
 pub fn is_rfi(w: u32) -> bool
     ensures { result ≡ rules.is_rfi w }
 {
@@ -47,28 +43,39 @@ pub fn is_rfi(w: u32) -> bool
 }
 
 // bclr, unless BO says that it always branches.
+#[tactic(auto, unfolding(rules::specs::Words::is_conditional_blr))]
 pub fn is_conditional_blr(w: u32) -> bool
     ensures { result ≡ rules.is_conditional_blr w }
 {
     let bo = field_bo(w);
-    is_ext(w, 19, 16) & !((field(bo, 2, 1) == 1) & (field(bo, 4, 1) == 1))
+    is_ext(w, 19, 16) & !(bit(bo, 2) & bit(bo, 4))
+}
+
+// A word with the primary opcode 31 and the extended opcode x that moves between r0 and LR.
+fn is_lr_move(w: u32, x: u32) -> bool
+    ensures { result ≡ (rules.is_ext 31 x w && (rules.field_d w == 0) && (rules.field_spr w == 8)) }
+{
+    is_ext(w, 31, x) & (field_rd(w) == 0) & (field_spr(w) == 8)
 }
 
 // mfspr r0, LR
+#[tactic(auto, unfolding(rules::specs::Words::is_mflr))]
 pub fn is_mflr(w: u32) -> bool
     ensures { result ≡ rules.is_mflr w }
 {
-    is_ext(w, 31, 339) & (field_rd(w) == 0) & (field_spr(w) == 8)
+    is_lr_move(w, 339)
 }
 
 // mtspr LR, r0
+#[tactic(auto, unfolding(rules::specs::Words::is_mtlr))]
 pub fn is_mtlr(w: u32) -> bool
     ensures { result ≡ rules.is_mtlr w }
 {
-    is_ext(w, 31, 467) & (field_rd(w) == 0) & (field_spr(w) == 8)
+    is_lr_move(w, 467)
 }
 
 // stwu or stwux of r1 on r1
+#[tactic(auto, unfolding(rules::specs::Words::is_stwu))]
 pub fn is_stwu(w: u32) -> bool
     ensures { result ≡ rules.is_stwu w }
 {
@@ -76,6 +83,7 @@ pub fn is_stwu(w: u32) -> bool
 }
 
 // stw of r0 on r1
+#[tactic(auto, unfolding(rules::specs::Words::is_stw))]
 pub fn is_stw(w: u32) -> bool
     ensures { result ≡ rules.is_stw w }
 {
@@ -83,6 +91,7 @@ pub fn is_stw(w: u32) -> bool
 }
 
 // addi r1, r1, SIMM
+#[tactic(auto, unfolding(rules::specs::Words::is_addi))]
 pub fn is_addi(w: u32) -> bool
     ensures { result ≡ rules.is_addi w }
 {
@@ -90,6 +99,7 @@ pub fn is_addi(w: u32) -> bool
 }
 
 // or of r1 into any register: bits 6 to 10 are the source.
+#[tactic(auto, unfolding(rules::specs::Words::is_or))]
 pub fn is_or(w: u32) -> bool
     ensures { result ≡ rules.is_or w }
 {
@@ -97,6 +107,7 @@ pub fn is_or(w: u32) -> bool
 }
 
 // lwz of r1
+#[tactic(auto, unfolding(rules::specs::Words::is_lwz))]
 pub fn is_lwz(w: u32) -> bool
     ensures { result ≡ rules.is_lwz w }
 {
@@ -104,11 +115,12 @@ pub fn is_lwz(w: u32) -> bool
 }
 
 // blr, b without link, rfi, addi r1, r1, or lwz r1 with a base other than r1.
+#[tactic(auto, unfolding(rules::specs::Words::is_function_terminator))]
 pub fn is_function_terminator(w: u32) -> bool
     ensures { result ≡ rules.is_function_terminator w }
 {
     is_blr(w)
-        | ((opcode(w) == 18) & (field(w, 0, 1) == 0))
+        | ((opcode(w) == 18) & !bit(w, 0))
         | is_rfi(w)
         | is_addi(w)
         | (is_lwz(w) & (field_ra(w) != 1))

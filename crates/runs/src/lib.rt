@@ -10,9 +10,7 @@ fn move_up(xs: &mut [u64], src: usize, dst: usize, count: usize)
     requires { (src ≤ dst) × (dst + count ≤ length xs.old) }
     ensures { xs.new ≡ paste xs.old dst (drop src xs.old) count }
 {
-    let mut k = count;
-    while 0 < k {
-        k -= 1;
+    for k in (0..count).rev() {
         xs[dst + k] = xs[src + k];
     }
 }
@@ -22,10 +20,8 @@ fn move_down(xs: &mut [u64], src: usize, dst: usize, count: usize)
     requires { (dst ≤ src) × (src + count ≤ length xs.old) }
     ensures { xs.new ≡ paste xs.old dst (drop src xs.old) count }
 {
-    let mut k: usize = 0;
-    while k < count {
+    for k in 0..count {
         xs[dst + k] = xs[src + k];
-        k += 1;
     }
 }
 
@@ -34,14 +30,11 @@ pub fn shift(xs: &mut [u64], src: usize, dst: usize, count: usize)
     requires { (src + count ≤ length xs.old) × (dst + count ≤ length xs.old) }
     ensures { xs.new ≡ paste xs.old dst (drop src xs.old) count }
 {
-    if src == dst {
-        return;
-    }
     if src < dst {
         move_up(xs, src, dst, count);
-        return;
+    } else if dst < src {
+        move_down(xs, src, dst, count);
     }
-    move_down(xs, src, dst, count);
 }
 
 // The first `count` elements of new, from at on.
@@ -49,11 +42,7 @@ pub fn copy_in(xs: &mut [u64], at: usize, new: &[u64], count: usize)
     requires { (count ≤ length new.now) × (at + count ≤ length xs.old) }
     ensures { xs.new ≡ paste xs.old at new.now count }
 {
-    let mut k: usize = 0;
-    while k < count {
-        xs[at + k] = new[k];
-        k += 1;
-    }
+    xs[at..at + count].copy_from_slice(&new[..count]);
 }
 
 // `value` `count` times, from at on.
@@ -61,11 +50,19 @@ pub fn fill(xs: &mut [u64], at: usize, value: u64, count: usize)
     requires { at + count ≤ length xs.old }
     ensures { xs.new ≡ paste xs.old at (replicate count value) count }
 {
-    let mut k: usize = 0;
-    while k < count {
-        xs[at + k] = value;
-        k += 1;
-    }
+    xs[at..at + count].fill(value);
+}
+
+// Among the first total elements, makes those from at up to until `len` elements, which are still to be written; the new count.
+fn make_room(xs: &mut [u64], total: usize, at: usize, until: usize, len: usize) -> usize
+    requires { Fits xs.old total at until len }
+    ensures count { result ≡ at + len + (total - until) }
+    ensures moved { xs.new ≡ paste xs.old (at + len) (drop until xs.old) (total - until) }
+{
+    let dst = at + len;
+    let rest = total - until;
+    shift(xs, until, dst, rest);
+    dst + rest
 }
 
 // Among the first total elements, the first `len` of new in the place of those from at up to until; the new count.
@@ -82,11 +79,9 @@ pub fn splice(
     ensures whole { xs.new ≡ spliced xs.old total at until (take len new.now) ++ drop result
         xs.old }
 {
-    let dst = at + len;
-    let rest = total - until;
-    shift(xs, until, dst, rest);
+    let count = make_room(xs, total, at, until, len);
     copy_in(xs, at, new, len);
-    dst + rest
+    count
 }
 
 // The same with `value` `len` times.
@@ -103,9 +98,7 @@ pub fn splice_fill(
     ensures whole { xs.new ≡ spliced xs.old total at until (replicate len value) ++ drop result
         xs.old }
 {
-    let dst = at + len;
-    let rest = total - until;
-    shift(xs, until, dst, rest);
+    let count = make_room(xs, total, at, until, len);
     fill(xs, at, value, len);
-    dst + rest
+    count
 }

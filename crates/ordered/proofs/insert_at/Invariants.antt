@@ -3,7 +3,4 @@ use Rattle.ordered.proofs.Shift.{Moved}
 use Rattle.ordered.proofs.insert_at.Given as goal
 
 abbrev pub invariant-loop-k : goal.invariant-loop-k
-invariant-loop-k l = (l.i ≤ l.k) × (l.k ≤ l.count) × Moved l.initial.xs l.count l.k l.xs
-
-abbrev pub decreases-loop-k : goal.decreases-loop-k
-decreases-loop-k l = l.k
+invariant-loop-k l = (l.at ≤ l.k) × (l.k ≤ l.count) × Moved l.initial.xs l.count l.k l.xs

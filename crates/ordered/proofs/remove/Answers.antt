@@ -8,5 +8,5 @@ remove_at-requires c = search (rules, at_lt)
 pub returns-then-f : goal.returns-then-f
 returns-then-f c = search (rules, removed)
 
-pub returns : goal.returns
-returns c = search (rules, absent)
+pub returns-else-f : goal.returns-else-f
+returns-else-f c = search (rules, absent)

@@ -5,6 +5,3 @@ use Rattle.ordered.proofs.remove_at.Given as goal
 
 abbrev pub invariant-loop-k : goal.invariant-loop-k
 invariant-loop-k l = (l.i ≤ l.k) × (l.k ≤ l.last) × (l.last ≡ l.count - 1) × Closed l.initial.xs l.count l.i l.k l.xs
-
-abbrev pub decreases-loop-k : goal.decreases-loop-k
-decreases-loop-k l = l.last - l.k

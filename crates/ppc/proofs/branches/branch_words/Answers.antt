@@ -9,5 +9,5 @@ returns-then-x-lt8388608 c = search (rules, count_near)
 pub overflow_sub-result : goal.overflow_sub-result
 overflow_sub-result c = search (rules, count_far_fits)
 
-pub returns : goal.returns
-returns c = search (rules, count_far)
+pub returns-else-x-lt8388608 : goal.returns-else-x-lt8388608
+returns-else-x-lt8388608 c = search (rules, count_far)

@@ -6,5 +6,5 @@ use Rattle.ppc.proofs.branches.origin.Goals as goal
 pub returns-then-is_absolute : goal.returns-then-is_absolute
 returns-then-is_absolute c = sym (if_true (sym c.is_absolute.ensures ∙ c.if-is_absolute.true) _ _)
 
-pub returns : goal.returns
-returns c = sym (if_false (sym c.is_absolute.ensures ∙ c.if-is_absolute.false) _ _)
+pub returns-else-is_absolute : goal.returns-else-is_absolute
+returns-else-is_absolute c = sym (if_false (sym c.is_absolute.ensures ∙ c.if-is_absolute.false) _ _)

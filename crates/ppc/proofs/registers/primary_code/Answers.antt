@@ -8,4 +8,4 @@ use Rattle.ppc.proofs.registers.primary_code.Goals as goal
 -- `ppc::registers::primary_code`: the table is the one that the rows of `rules` give, which antt computes. Assumes nothing.
 pub returns : goal.returns
 unfolding primary_codes if primary_table is_branch_primary
-returns c = primary_at c.args.x (search rules)
+returns c = rw c.from.ensures (primary_at c.args.p (search rules))

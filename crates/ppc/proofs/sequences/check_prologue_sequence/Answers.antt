@@ -1,10 +1,35 @@
-use Rattle.ppc.proofs.Scan.{prologue_is, no_prologue, first_some, first_none}
-use borrow.Author.Rules.{rules}
+use mathlib.Core.Path.{sym, ◌∙◌}
+use Rattle.rules.specs.Words.{is_stwu, is_mflr, is_stw}
+use Rattle.rules.specs.Sequences.{check_prologue_sequence, prologue_pairs}
+use Rattle.ppc.proofs.Scan.{first_is_there, second_is_there, third_decides}
 use Rattle.ppc.proofs.sequences.check_prologue_sequence.Goals as goal
+use Rattle.ppc.proofs.sequences.check_prologue_sequence.Goals.{then-is_pair, else-is_pair}
 
--- `ppc::sequences::check_prologue_sequence` is that of `rules`: the numbers are those of its tests. Assumes nothing.
-pub returns-then-f : goal.returns-then-f
-returns-then-f c = search (rules, prologue_is, first_some)
+-- `ppc::sequences::check_prologue_sequence`: its pairs are those of `rules`. Assumes nothing.
+pub returns-then-is_pair-2 : goal.returns-then-is_pair-2
+unfolding check_prologue_sequence prologue_pairs
+returns-then-is_pair-2 c =
+    let one = c.is_pair.ensures is_stwu is_mflr (λ w b k p. p) (λ w b k p. p) in
+    rw c.in-Some.ensures.some
+    (elim c.if-is_pair.branch [
+      | then-is_pair w ↦ first_is_there _ _ _ _ (w.value-is ∙ one) c.if-is_pair-2.true
+      | else-is_pair w ↦
+          second_is_there _ _ _ _ (sym one ∙ w.if-is_pair.false) (w.value-is ∙ w.is_pair-else-is_pair.ensures is_mflr is_stw (λ w b k p. p) (λ w b k p. p)) c.if-is_pair-2.true
+    ])
 
-pub returns : goal.returns
-returns c = search (rules, no_prologue, first_none)
+pub returns-else-is_pair-2 : goal.returns-else-is_pair-2
+unfolding check_prologue_sequence prologue_pairs
+returns-else-is_pair-2 c =
+    let one = c.is_pair.ensures is_stwu is_mflr (λ w b k p. p) (λ w b k p. p) in
+    let three = c.is_pair-else-is_pair-2.ensures is_mflr is_stwu (λ w b k p. p) (λ w b k p. p) in
+    rw c.in-Some.ensures.some
+    (elim c.if-is_pair.branch [
+      | then-is_pair w ↦ cc
+      | else-is_pair w ↦
+          let two = w.is_pair-else-is_pair.ensures is_mflr is_stw (λ w b k p. p) (λ w b k p. p) in
+          third_decides _ _ _ _ (sym one ∙ w.if-is_pair.false) (sym two ∙ sym w.value-is ∙ c.if-is_pair-2.false) three
+    ])
+
+pub returns-in-None : goal.returns-in-None
+unfolding check_prologue_sequence prologue_pairs
+returns-in-None c = rw c.in-None.ensures.none

@@ -1,31 +1,29 @@
-use mathlib.Core.Path.{refl}
-use native.Mathlib.Omega.{arith}
+use Prim.Native.Nat.{◌+◌, ◌*◌, ◌<◌}
+use mathlib.Core.Path.{◌≡◌, refl}
+use mathlib.Core.Bool.{false}
 use borrow.Author.Rules.{rules}
-use lib.ListN.{drop}
-use Rattle.rules.specs.Bytes.{words_in}
-use Rattle.ppc.proofs.Scan.{scan_found, scan_stopped, scan_on, scan_ended}
+use native.Mathlib.Omega.{arith}
+use lib.ListN.{length}
+use Rattle.ppc.proofs.Scan.{scan_found, scan_stopped, scan_on, scan_ended, word_is}
 use Rattle.ppc.proofs.sequences.scan.Goals as goal
 
-pub returns-then-bytes-lt4 : goal.returns-then-bytes-lt4
-returns-then-bytes-lt4 c = let s = c.args in scan_ended s.second s.from s.bytes.now (words_in (drop s.from s.bytes.now)) refl (omega arith)
-
-pub loop-at-init : goal.loop-at-init
-loop-at-init c = refl
-
-pub is_test-requires : goal.is_test-requires
-is_test-requires c = tt
-
-pub returns-then-is_test : goal.returns-then-is_test
-returns-then-is_test c = search (rules, scan_found)
-
-pub is_end_of_seq-requires : goal.is_end_of_seq-requires
-is_end_of_seq-requires c = tt
+pub returns-then-second : goal.returns-then-second
+returns-then-second g c t is =
+    let word = word_is _ _ _ _ c.as_chunks.ensures.front c.as_chunks.ensures.front_len c.loop-word-test.true c.from_be_bytes-w.ensures in
+    scan_found t _ _ _ _ (c.loop-word.invariant t is) word _ (is _ _ c.from_be_bytes-w.type_inv c.second.ensures) c.if-second.true
 
 pub returns-then-is_end_of_seq : goal.returns-then-is_end_of_seq
-returns-then-is_end_of_seq c = search (rules, scan_stopped)
+returns-then-is_end_of_seq g c t is =
+    let word = word_is _ _ _ _ c.as_chunks.ensures.front c.as_chunks.ensures.front_len c.loop-word-test.true c.from_be_bytes-w.ensures in
+    let no : false ≡ t c.from_be_bytes-w.result = search (rules, is) in
+    scan_stopped t _ _ _ _ (c.loop-word.invariant t is) word _ _ no refl c.is_end_of_seq.ensures c.if-is_end_of_seq.true
 
-pub loop-at-preserved : goal.loop-at-preserved
-loop-at-preserved c = search (rules, scan_on)
+pub loop-word-preserved : goal.loop-word-preserved
+loop-word-preserved g c t is =
+    let word = word_is _ _ _ _ c.as_chunks.ensures.front c.as_chunks.ensures.front_len c.loop-word-test.true c.from_be_bytes-w.ensures in
+    scan_on t _ _ _ _ (c.loop-word.invariant t is) word _ _ (is _ _ c.from_be_bytes-w.type_inv c.second.ensures) c.if-second.false c.is_end_of_seq.ensures c.if-is_end_of_seq.false
 
 pub returns : goal.returns
-returns c = let s = c.args in scan_ended s.second c.loop-at.at s.bytes.now (words_in (drop s.from s.bytes.now)) c.loop-at.invariant (omega arith)
+returns g c t is =
+    let n = c.as_chunks.ensures.front_len in
+    let h : length c.args.bytes.now < 4 * c.loop-word.word-index + 4 = omega arith in scan_ended t _ _ _ (c.loop-word.invariant t is) h
