@@ -18,7 +18,7 @@ use std::io::{self, BufWriter};
 
 fn main(rt: HostRuntime) -> io::Result<()> {
     let alloc = rt.alloc();
-    let text = io::read_to_string(alloc, rt.reader())?;
+    let text = lines::read_text(alloc, rt.reader())?;
     let mut out = BufWriter::new(alloc, io::writer(&rt))?;
     lines::answer_all(
         alloc,

@@ -19,7 +19,14 @@ mod image;
 
 pub use image::{Image, Unread};
 use std::alloc::Global;
-use std::io::{self, ErrorKind, Write};
+use std::io::{self, ErrorKind, Read, Write};
+
+/// All that a reader gives. Bytes that are no text become a character that stands in no line but a remark.
+pub fn read_text<R: Read + Drop>(alloc: Global, mut from: R) -> io::Result<String> {
+    let mut bytes = Vec::new(alloc);
+    from.read_to_end(&mut bytes)?;
+    Ok(String::from_utf8_lossy(alloc, &bytes)?)
+}
 
 /// What is written for each image of a text: what `answer` writes, or why there is no answer, and a line `=`.
 pub fn answer_all<W: Write, F: Fn(&mut W, &Image) -> io::Result<()>>(

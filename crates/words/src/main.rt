@@ -17,13 +17,13 @@ use std::convert::AsStr;
 use std::io::{self, BufRead, BufReader, BufWriter, Write};
 
 /// The word of a line of eight hexadecimal digits.
-fn word_of(line: &str) -> Option<u32>
+fn word_of(line: &[u8]) -> Option<u32>
     ensures long { IfSome result (λ _. length line.now ≡ 8) }
 {
-    if line.len() != 8 || !line.bytes().all(|b| b.is_ascii_hexdigit()) {
+    if line.len() != 8 || !line.iter().all(|b| b.is_ascii_hexdigit()) {
         return None;
     }
-    u32::from_str_radix(line, 16).ok()
+    u32::from_str_radix(str::from_utf8(line).ok()?, 16).ok()
 }
 
 /// One more register, if a word names it.
@@ -90,8 +90,8 @@ fn described(alloc: Global, word: u32) -> Result<String, AllocError> {
 fn main(rt: HostRuntime) -> io::Result<()> {
     let alloc = rt.alloc();
     let mut out = BufWriter::new(alloc, io::writer(&rt))?;
-    for line in BufReader::new(alloc, rt.reader())?.lines(alloc) {
-        match word_of(line?.as_str()) {
+    for line in BufReader::new(alloc, rt.reader())?.split(alloc, b'\n') {
+        match word_of(&line?) {
             Some(word) => writeln!(out, "{}", described(alloc, word)?)?,
             None => writeln!(out, "?")?,
         }
