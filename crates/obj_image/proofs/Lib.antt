@@ -3,3 +3,4 @@ pub mod Loops
 pub mod SectionRows
 pub mod CheckImage
 pub mod Halves
+pub mod Chains
