@@ -1,11 +1,11 @@
 -- Skip ranges: what each test and each loop over them has found at its returns. Assumes nothing.
-use Prim.Native.Nat.{ℕ, ◌+◌, ◌/◌, ◌%◌, ◌≤◌, ◌<◌}
+use Prim.Native.Nat.{ℕ, ◌/◌, ◌%◌, ◌<◌}
 use mathlib.Core.Path.{◌≡◌, refl, sym, ap, ◌∙◌}
 use mathlib.Core.Bool.{Bool, true, false, ◌&&◌, not}
 use mathlib.Core.List.{List, [], ◌∷◌}
 use native.Mathlib.Omega.{arith}
 use lib.Dec.{leb, eqb}
-use lib.ListN.{length, drop, get_or}
+use lib.ListN.{length}
 use borrow.Author.Tests.{eq-eqb, ne_eqb, ltb-true}
 use Rattle.rules.specs.Choice.{if, any}
 use Rattle.rules.specs.Image as images
@@ -15,13 +15,8 @@ use Rattle.rules.specs.Check as rules
 use Rattle.rules.specs.Map.{Capacity, past_range, skip_range}
 use Rattle.rules.proofs.Tests.{and_right}
 use Rattle.obj_image.specs.Lent.{Lent, rows, skip_row, given, image, seen}
-use Rattle.obj_rows.specs.Skips.{range_of, IsSkipped}
-use Rattle.obj_image.proofs.Rows.{row_here, rows_count, not_whole, middle_false}
-
--- a range's row, by its numbers
-pub range_here : (l : List ℕ) (at : ℕ) → at + 2 ≤ length l → rows 2 skip_row (drop at l) ≡ range_of (record { first = get_or l at 0; past = get_or l (at + 1) 0 }) ∷ rows 2 skip_row (drop (at + 2) l)
-unfolding if
-range_here l at h = row_here l at 1 skip_row h
+use Rattle.obj_rows.specs.Skips.{IsSkipped}
+use Rattle.obj_image.proofs.Rows.{rows_count, not_whole, middle_false}
 
 -- ---- the range that holds an address
 

@@ -7,6 +7,7 @@ use native.Mathlib.Omega.{arith}
 use lib.Dec.{leb, eqb}
 use borrow.Author.Tests.{lt-leb}
 use lib.ListN.{length, drop, get_or}
+use Rattle.std.specs.Simd.{first_chunks}
 use Rattle.rules.specs.Choice.{if, if_true, if_false}
 use Rattle.rules.specs.Image as images
 use Rattle.rules.specs.Given.{SymbolRow, image_of}
@@ -14,14 +15,19 @@ use Rattle.rules.specs.Given as givens
 use Rattle.rules.specs.Check as rules
 use Rattle.rules.specs.JumpTable.{known_size}
 use Rattle.obj_image.specs.Lent.{Lent, rows, symbol_row, given, image}
-use Rattle.obj_rows.specs.Symbols.{symbol_of, symbol_holds}
+use Rattle.obj_rows.specs.Symbols.{symbol_of, read_symbol, symbol_holds}
 use Rattle.obj_image.proofs.Halves.{half_function, half_object}
-use Rattle.obj_image.proofs.Rows.{row_here, rows_count, not_whole, middle_false}
+use Rattle.obj_image.proofs.Rows.{row_here, rows_chunks, rows_count, not_whole, middle_false}
 
 -- a symbol's row, by its numbers
 pub symbol_here : (l : List ℕ) (at : ℕ) → at + 3 ≤ length l → rows 3 symbol_row (drop at l) ≡ symbol_of (record { address = get_or l at 0; size = get_or l (at + 1) 0; known = get_or l (at + 2) 0 }) ∷ rows 3 symbol_row (drop (at + 3) l)
 unfolding if
 symbol_here l at h = row_here l at 2 symbol_row h
+
+-- whole rows, as std cuts them
+pub symbol_rows : (s : List ℕ) → length s % 3 ≡ 0 → (c : List (List ℕ)) → c ≡ first_chunks 3 (length s / 3) s → rows 3 symbol_row s ≡ map read_symbol c
+unfolding if
+symbol_rows s whole c cut = rows_chunks 3 (omega arith) symbol_row read_symbol (λ x h. rw h refl) s whole ∙ ap (map read_symbol) (sym cut)
 
 -- ---- the known size of an object symbol
 
