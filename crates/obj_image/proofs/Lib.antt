@@ -1,5 +1,4 @@
 pub mod Rows
-pub mod Loops
 pub mod SectionRows
 pub mod CheckImage
 pub mod Halves

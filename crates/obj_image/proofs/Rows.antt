@@ -142,6 +142,13 @@ module _ (l : List ℕ) (at : ℕ) where
 
 -- ---- whole rows, as std cuts them
 
+pub chunk_at : (w n : ℕ) (l : List ℕ) (i : ℕ) → i < n → get_or (first_chunks w n l) i [] ≡ take w (drop (i * w) l)
+chunk_at w zero l i h = absurd (omega arith)
+chunk_at w (suc n) l zero h = rw (zero-mul w) refl
+chunk_at w (suc n) l (suc i) h =
+    let step : suc i * w ≡ w + i * w = suc-mul i w ∙ omega arith in
+    chunk_at w n (drop w l) i (omega arith) ∙ rw (step, ← drop-drop (i * w) w l) refl
+
 module _ {A : Type 0} (w : ℕ) (pos : 0 < w) (row read : List ℕ → A) (same : (c : List ℕ) → length c ≡ w → row c ≡ read c) where
   chunks_are : (n : ℕ) (l : List ℕ) → n * w ≤ length l → rows_from w row n l ≡ map read (first_chunks w n l)
   chunks_are zero l h = refl

@@ -1,20 +1,13 @@
 -- The sections: what each test and each loop over them has found at its returns. Assumes nothing.
-use Prim.Native.Nat.{ℕ, suc, ◌+◌, ◌≤◌}
+use Prim.Native.Nat.{ℕ, suc}
 use mathlib.Core.Path.{◌≡◌, refl, sym, ap, ◌∙◌}
 use mathlib.Core.List.{List, [], ◌∷◌}
-use lib.ListN.{length, drop, get_or}
+use lib.ListN.{drop}
 use Rattle.rules.specs.Choice.{if}
 use Rattle.rules.specs.Address.{key}
 use Rattle.rules.specs.Image as images
 use Rattle.rules.specs.Given.{SectionRow, sections_of, section_of_row, image_of}
 use Rattle.obj_image.specs.Lent.{Lent, rows, section_row, given, image}
-use Rattle.obj_image.specs.Sections.{row_of}
-use Rattle.obj_image.proofs.Rows.{row_here}
-
--- a section's row, by its numbers
-pub section_here : (l : List ℕ) (at : ℕ) → at + 4 ≤ length l → rows 4 section_row (drop at l) ≡ row_of (record { kind = get_or l at 0; base = get_or l (at + 1) 0; size = get_or l (at + 2) 0; given = get_or l (at + 3) 0 }) ∷ rows 4 section_row (drop (at + 4) l)
-unfolding if
-section_here l at h = row_here l at 3 section_row h
 
 -- ---- where an address lies
 

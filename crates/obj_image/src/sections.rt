@@ -1,8 +1,8 @@
 // The sections: what check 1 asks of them, and where an address lies.
-ghost use Rattle.std.specs.Prelude.{◌≡◌, ◌∷◌, ◌+◌, ◌<◌, ◌≤◌, length, drop, map};
+ghost use Rattle.std.specs.Prelude.{◌≡◌, ◌+◌, ◌<◌, ◌≤◌, length, map};
 ghost use Rattle.rules.specs.Check as rules;
 ghost use Rattle.rules.specs.Image as images;
-ghost use Rattle.obj_image.specs.Lent.{Lent, rows, section_row, given, image};
+ghost use Rattle.obj_image.specs.Lent.{Lent, given, image};
 ghost use Rattle.obj_image.specs.Sections.{section_by, row_of, read_row, part_of, section_holds, image_holds, Few};
 
 // A section by value.
@@ -25,20 +25,6 @@ impl From<&[u32; 4]> for Section {
             size,
             given,
         }
-    }
-}
-
-// The section whose row begins at an index: the next one of the rows from there.
-pub fn section_at(sections: &[u32], at: usize) -> Section
-    requires { at + 4 ≤ length sections.now }
-    ensures { rows 4 section_row (drop at sections.now) ≡ row_of result ∷ rows 4 section_row
-        (drop (at + 4) sections.now) }
-{
-    Section {
-        kind: sections[at],
-        base: sections[at + 1],
-        size: sections[at + 2],
-        given: sections[at + 3],
     }
 }
 
@@ -151,7 +137,7 @@ fn none_overlap(sections: &[[u32; 4]]) -> bool
 }
 
 // How many bytes of all sections are lent.
-fn count_bytes(sections: &[[u32; 4]]) -> u64
+pub fn count_bytes(sections: &[[u32; 4]]) -> u64
     requires { length sections.now ≤ 8 }
     ensures { result ≡ rules.count_bytes (map read_row sections.now) }
 {

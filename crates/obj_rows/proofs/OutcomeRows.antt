@@ -12,7 +12,7 @@ use Rattle.rules.specs.Image.{Image}
 use Rattle.rules.specs.Given.{BranchRow, OutcomeRow}
 use Rattle.rules.specs.Check as rules
 use Rattle.obj_image.specs.Lent.{rows, outcome_row, branch_row, to_number}
-use Rattle.obj_rows.specs.Outcomes.{row_of, number_of}
+use Rattle.obj_rows.specs.Outcomes.{row_of, read_outcome, number_of}
 use Rattle.obj_rows.specs.declared.outcomes.Kind.{Kind}
 use Rattle.obj_rows.specs.declared.outcomes.Kind.TheVariants.{GoOn, Illegal, Unknown, Return, Jump, JumpTable, Branches}
 use Rattle.obj_rows.specs.declared.outcomes.Row.{Row}
@@ -21,6 +21,11 @@ use Rattle.obj_image.proofs.Rows.{row_here, middle_false}
 -- an outcome's row, by its numbers
 pub outcome_here : (l : List ℕ) (at : ℕ) → at + 6 ≤ length l → rows 6 outcome_row (drop at l) ≡ row_of (record { kind = get_or l at 0; mark = get_or l (at + 1) 0; first = get_or l (at + 2) 0; second = get_or l (at + 3) 0; third = get_or l (at + 4) 0; fourth = get_or l (at + 5) 0 }) ∷ rows 6 outcome_row (drop (at + 6) l)
 outcome_here l at h = row_here l at 5 outcome_row h
+
+-- six numbers are a row
+pub whole_outcome : (c : List ℕ) → length c ≡ 6 → outcome_row c ≡ read_outcome c
+unfolding if
+whole_outcome c h = rw h refl
 
 -- ---- check 2
 

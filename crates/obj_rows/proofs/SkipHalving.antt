@@ -16,10 +16,9 @@ use Rattle.rules.specs.Check as rules
 use Rattle.rules.proofs.Tests.{and_left, and_right}
 use Rattle.std.specs.Simd.{first_chunks}
 use Rattle.obj_image.specs.Lent.{rows, skip_row, seen}
-use Rattle.obj_image.proofs.Rows.{rows_chunks}
 use Rattle.obj_rows.specs.Skips.{range_by, range_of, read_range, first_of, is_nonempty, Ascending, IsSkipped}
 use Rattle.obj_rows.specs.declared.skips.Range.{Range}
-use Rattle.obj_rows.proofs.SkipRows.{past_in, skipped}
+use Rattle.obj_rows.proofs.SkipRows.{range_rows, past_in, skipped}
 
 abbrev pub range_first : images.Range → ℕ
 range_first r = r.first
@@ -115,8 +114,7 @@ firsts_are (x ∷ c) = ap (λ (l : List ℕ). first_of x ∷ l) (firsts_are c)
 
 module _ (s : List ℕ) (asc : Ascending s) (c : List (List ℕ)) (cut : c ≡ first_chunks 2 (length s / 2) s) where
   ranges_are : rows 2 skip_row s ≡ map read_range c
-  unfolding if
-  ranges_are = rows_chunks 2 (omega arith) skip_row read_range (λ x h. rw h refl) s asc.whole ∙ ap (map read_range) (sym cut)
+  ranges_are = range_rows s asc.whole c cut
 
   nonempty : Nonempty (map read_range c)
   nonempty = rw (← ranges_are) asc.nonempty

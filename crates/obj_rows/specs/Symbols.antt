@@ -1,10 +1,8 @@
 -- Symbols by value, and what the lookups among them ask for.
-use Rattle.std.specs.Prelude.{ℕ, ◌%◌, ◌≡◌, Bool, List, map, get_or, length}
-use Rattle.rules.specs.Choice.{if}
+use Rattle.std.specs.Prelude.{ℕ, ◌%◌, ◌≡◌, List, map, get_or, length}
 use Rattle.rules.specs.Ordered.{self, Rising}
-use Rattle.rules.specs.Image.{Image, locate}
+use Rattle.rules.specs.Image.{locate}
 use Rattle.rules.specs.Given.{SymbolRow}
-use Rattle.rules.specs.Check.{is_function_symbol, is_object_symbol}
 use Rattle.obj_image.specs.Lent.{rows, symbol_row, seen}
 use Rattle.obj_rows.specs.declared.symbols.Symbol.{Symbol}
 
@@ -26,10 +24,6 @@ address_of c = (read_symbol c).address
 -- the key of a row, by the sections alone
 abbrev pub key_of : List ℕ → List ℕ → ℕ
 key_of s c = locate (seen s) (read_symbol c).address
-
--- what is asked of a function symbol, or of an object symbol
-abbrev pub symbol_holds : Image → Bool → SymbolRow → Bool
-symbol_holds im f s = if f (is_function_symbol im s) (is_object_symbol im s)
 
 -- the addresses of the rows
 abbrev pub addresses : List ℕ → List ℕ

@@ -1,7 +1,7 @@
 // What each code word does, as rows: what check 2 asks of one.
-ghost use Rattle.std.specs.Prelude.{◌≡◌, ◌∷◌, ◌+◌, ◌≤◌, length, drop, map};
+ghost use Rattle.std.specs.Prelude.{◌≡◌, map};
 ghost use Rattle.rules.specs.Check as rules;
-ghost use Rattle.obj_image.specs.Lent.{rows, outcome_row, branch_row, seen};
+ghost use Rattle.obj_image.specs.Lent.{branch_row, seen};
 ghost use Rattle.obj_image.specs.Sections.{Few};
 ghost use Rattle.obj_rows.specs.Outcomes.{row_by, row_of, read_outcome, Decodes, number_of};
 
@@ -66,22 +66,6 @@ impl TryFrom<u32> for Kind {
             6 => Ok(Kind::Branches),
             _ => Err(UnknownKind(number)),
         }
-    }
-}
-
-// The row that begins at an index: the next one of the rows from there.
-pub fn row_at(outcomes: &[u32], at: usize) -> Row
-    requires { at + 6 ≤ length outcomes.now }
-    ensures { rows 6 outcome_row (drop at outcomes.now) ≡ row_of result ∷ rows 6 outcome_row
-        (drop (at + 6) outcomes.now) }
-{
-    Row {
-        kind: outcomes[at],
-        mark: outcomes[at + 1],
-        first: outcomes[at + 2],
-        second: outcomes[at + 3],
-        third: outcomes[at + 4],
-        fourth: outcomes[at + 5],
     }
 }
 
