@@ -9,4 +9,4 @@ pub returns-in_default : goal.returns-in_default
 returns-in_default c = part_none c.args.i 0 c.args.sections.now _ (search (rules, tests)) (omega (arith, c.count_bytes.ensures))
 
 pub returns : goal.returns
-returns c = part_some c.args.i 0 c.args.sections.now c.from-section.result _ (search (rules, tests)) (search rules) (omega (arith, c.count_bytes-2.ensures))
+returns c = part_some c.args.i 0 c.args.sections.now c.from-section.result _ (search (rules, tests)) (search rules) (omega arith)
