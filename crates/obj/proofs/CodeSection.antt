@@ -1,17 +1,18 @@
 -- The code section of an image, from the rows of its sections. Assumes nothing.
-use Prim.Native.Nat.{ℕ, zero, suc, ◌+◌, ◌*◌, ◌-◌, ◌/◌, ◌≤◌}
+use Prim.Native.Nat.{ℕ, zero, suc, ◌+◌, ◌-◌, ◌/◌, ◌%◌, ◌<◌, ◌≤◌}
 use mathlib.Core.Path.{◌≡◌, refl, sym, ap, ◌∙◌}
-use mathlib.Core.Bool.{Bool, true, false, ◌&&◌, and-false}
-use mathlib.Core.List.{List, [], ◌∷◌}
+use mathlib.Core.Bool.{Bool, true, false, ◌&&◌, and-false, cond, not}
+use mathlib.Core.List.{List, [], ◌∷◌, map}
 use native.Mathlib.Omega.{arith}
-use native.Mathlib.Numerals.{add-one}
-use lib.Dec.{leb, eqb}
-use lib.ListN.{length, take, drop, get_or}
-use lib.Seq.{drop-drop, drop-nil}
-use borrow.Author.Tests.{eqb-true, ne_eqb, le-ltb, eq-eqb}
+use lib.Dec.{leb, ltb, eqb}
+use lib.ListN.{length, take, drop, get_or, length-map, get_or-map}
+use lib.Seq.{drop-drop, drop-nil, drop-cons}
+use borrow.Author.Tests.{eqb-true, ltb-false, ne_eqb, le-ltb}
+use Rattle.std.specs.List.{position_or_len}
+use Rattle.std.proofs.Common.{add-zero}
 use Rattle.rules.specs.Choice.{if, by_if, if_true, if_false}
 use Rattle.rules.specs.Bytes.{words_in}
-use Rattle.rules.specs.Address.{address_of}
+use Rattle.rules.specs.Address.{address_of, section_of}
 use Rattle.rules.specs.Ordered.{first}
 use Rattle.rules.specs.Image as images
 use Rattle.rules.specs.Image.{code_from, code_number, code_section, no_section, is_code}
@@ -20,25 +21,64 @@ use Rattle.rules.specs.Check as rules
 use Rattle.rules.proofs.Tests.{and_left, and_right}
 use Rattle.rules.proofs.Passes.{code_from_low}
 use Rattle.obj_image.specs.Lent.{Lent, rows, section_row, given, image}
-use Rattle.obj.specs.Sections.{row_of, part_of, Few, IsCode}
+use Rattle.obj.specs.Sections.{section_by, row_of, read_row, part_of, part_in, IsCode}
 use Rattle.obj_image.specs.declared.sections.Section.{Section}
 use Rattle.obj.specs.declared.sections.Code.{Code}
-use Rattle.obj_image.proofs.Rows.{row_end, rows_drop, rows_count}
+use Rattle.std.specs.Simd.{first_chunks}
+use Rattle.std.specs.Prelude.{Option, Some, None}
+use Rattle.std.specs.Option.{unwrap_or}
+use Rattle.obj.specs.declared.sections.Part.{Part}
+use Rattle.obj_image.proofs.Chains.{section_rows}
 
 -- the first of code, from the section i on, whose bytes begin at an offset
 abbrev pub code_in : ℕ → ℕ → List SectionRow → Code
 code_in i at [] = record { number = i; base = 0; size = 0; offset = at }
 code_in i at (r ∷ rs) = if (rules.is_code_row r) (record { number = i; base = r.base; size = r.size; offset = at }) (code_in (suc i) (at + r.given) rs)
 
-module _ (x : Section) (rest tail : List SectionRow) (n at : ℕ) (whole : Code) (same : code_in n at rest ≡ whole) (next : rest ≡ row_of x ∷ tail) where
-  pub code_here : x.kind ≡ 1 → record { number = n; base = x.base; size = x.size; offset = at } ≡ whole
-  code_here h = sym (if_true (eq-eqb _ 1 h) _ _) ∙ ap (code_in n at) (sym next) ∙ same
+-- by the place of the first of code
+abbrev pub code_place : List (List ℕ) → ℕ
+code_place c = position_or_len (λ (s : Section). eqb s.kind 1) (map section_by c)
 
-  pub code_later : (v : ℕ) → v ≡ x.given → (x.kind ≡ 1 → ⊥) → code_in (n + 1) (at + v) tail ≡ whole
-  code_later v e h = rw (add-one n, e) (sym (if_false (ne_eqb _ 1 h) _ _) ∙ ap (code_in n at) (sym next) ∙ same)
+-- the section k of these as the one of code, which has the number n + k
+abbrev pub code_of : ℕ → ℕ → ℕ → List SectionRow → Code
+code_of n k at rs = record { number = n + k; base = (part_in k at rs).base; size = (part_in k at rs).size; offset = (part_in k at rs).offset }
 
-pub code_nowhere : (l : List ℕ) (at n o : ℕ) (whole : Code) → code_in n o (rows 4 section_row (drop at l)) ≡ whole → length l ≤ at → record { number = n; base = 0; size = 0; offset = o } ≡ whole
-code_nowhere l at n o whole same h = sym (ap (code_in n o) (row_end 4 (omega arith) section_row l at h)) ∙ same
+code_at : (n at : ℕ) (c : List (List ℕ)) → code_of n (code_place c) at (map read_row c) ≡ code_in n at (map read_row c)
+unfolding if
+code_at n at [] = rw (add-zero n) refl
+code_at n at (x ∷ c) = go (eqb (get_or x 0 0) 1) (code_at (suc n) (at + get_or x 3 0) c)
+  where
+    go : (b : Bool) → code_of (suc n) (code_place c) (at + get_or x 3 0) (map read_row c) ≡ code_in (suc n) (at + get_or x 3 0) (map read_row c) → code_of n (cond (not b) (1 + code_place c) 0) at (read_row x ∷ map read_row c) ≡ if b (record { number = n; base = get_or x 1 0; size = get_or x 2 0; offset = at }) (code_in (suc n) (at + get_or x 3 0) (map read_row c))
+    go true h = rw (add-zero n) refl
+    go false h =
+        let e : 1 + code_place c ≡ suc (code_place c) = omega arith in
+        let f : n + suc (code_place c) ≡ suc n + code_place c = omega arith in
+        rw (e, f) h
+
+place_small : (p : Section → Bool) (l : List Section) → position_or_len p l ≤ length l
+place_small p [] = omega arith
+place_small p (x ∷ l) = go (p x) (place_small p l)
+  where
+    go : (b : Bool) → position_or_len p l ≤ length l → cond (not b) (1 + position_or_len p l) 0 ≤ suc (length l)
+    go true h = omega arith
+    go false h = omega arith
+
+-- i is the place that `position` found, or else how many there are
+pub place_is : (c : List (List ℕ)) (r : Option ℕ) (i : ℕ) → r ≡ cond (ltb (code_place c) (length (map section_by c))) (Some (code_place c)) None → i ≡ unwrap_or r (length c) → i ≡ code_place c
+place_is c r i e h = go (ltb (code_place c) (length (map section_by c))) refl e
+  where
+    go : (b : Bool) → ltb (code_place c) (length (map section_by c)) ≡ b → r ≡ cond b (Some (code_place c)) None → i ≡ code_place c
+    go true t q = h ∙ ap (λ (o : Option ℕ). unwrap_or o (length c)) q
+    go false t q =
+        let low : length (map section_by c) ≤ code_place c = ltb-false _ _ t in
+        let top : code_place c ≤ length (map section_by c) = place_small (λ (s : Section). eqb s.kind 1) (map section_by c) in
+        h ∙ ap (λ (o : Option ℕ). unwrap_or o (length c)) q ∙ omega (arith, low, top, length-map c section_by)
+
+-- what is found of whole rows, as std cuts them
+pub code_found : (s : List ℕ) → length s % 4 ≡ 0 → (c : List (List ℕ)) → c ≡ first_chunks 4 (length s / 4) s → (i : ℕ) → i ≡ code_place c → (p : Part) → p ≡ part_in i 0 (map read_row c) → record { number = i + 1; base = p.base; size = p.size; offset = p.offset } ≡ code_in 1 0 (rows 4 section_row s)
+code_found s whole c cut i here p is =
+    let e : i + 1 ≡ 1 + i = omega arith in
+    rw (e, is, here, section_rows s whole c cut) (code_at 1 0 c)
 
 kind_is : (k : ℕ) → is_code (kind_of k) ≡ eqb k 1
 unfolding if
@@ -143,16 +183,17 @@ module _ (a : ℕ) where
   none_contains (r ∷ rs) b zero h = absurd (omega arith)
   none_contains (r ∷ rs) b (suc i) h = none_contains rs (drop r.given b) i (omega arith)
 
-module _ (s : List ℕ) (k i : ℕ) (is : i ≡ k / 0x1_0000_0000 - 1) where
-  pub in_section : (a : ℕ) (x : Section) (b : Bool) → a ≡ address_of k → rows 4 section_row (drop (i * 4) s) ≡ row_of x ∷ rows 4 section_row (drop (i * 4 + 4) s) → b ≡ images.contains (part_of x) a → (l : Lent) → l.sections ≡ s → b ≡ images.contains (images.section_at (image l) k) (address_of k)
+module _ (s : List ℕ) (whole : length s % 4 ≡ 0) (c : List (List ℕ)) (cut : c ≡ first_chunks 4 (length s / 4) s) (k i : ℕ) (is : i ≡ section_of k - 1) where
+  pub in_section : i < length c → (x : Section) → x ≡ section_by (get_or c i []) → (a : ℕ) → a ≡ address_of k → (b : Bool) → b ≡ images.contains (part_of x) a → (l : Lent) → l.sections ≡ s → b ≡ images.contains (images.section_at (image l) k) (address_of k)
   unfolding images.section_at image_of given
-  in_section a x b ea next h l e =
+  in_section room x here a ea b h l e =
+      let row : drop i (map read_row c) ≡ row_of x ∷ drop (suc i) (map read_row c) =
+      drop-cons (map read_row c) i (read_row []) (rw length-map room) ∙ ap (λ (r : SectionRow). r ∷ drop (suc i) (map read_row c)) (get_or-map read_row c i [] ∙ ap row_of (sym here)) in
       h ∙ ap (images.contains (part_of x)) ea
-      ∙ sym (row_contains (address_of k) (rows 4 section_row s) l.bytes i (row_of x) _ (rows_drop 4 (omega arith) section_row s i ∙ next))
+      ∙ sym (row_contains (address_of k) (rows 4 section_row s) l.bytes i (row_of x) _ (ap (drop i) (section_rows s whole c cut) ∙ row))
       ∙ rw (is, e) refl
 
-  pub in_no_section : Few s → length s ≤ i * 4 → (l : Lent) → l.sections ≡ s → false ≡ images.contains (images.section_at (image l) k) (address_of k)
+  pub in_no_section : length c ≤ i → (l : Lent) → l.sections ≡ s → false ≡ images.contains (images.section_at (image l) k) (address_of k)
   unfolding images.section_at image_of given
-  in_no_section few h l e =
-      let n : length s / 4 ≡ length (rows 4 section_row s) = rows_count 4 (omega arith) section_row s few.whole in
-      sym (none_contains (address_of k) (rows 4 section_row s) l.bytes i (omega arith)) ∙ rw (is, e) refl
+  in_no_section h l e =
+      sym (none_contains (address_of k) (rows 4 section_row s) l.bytes i (rw (section_rows s whole c cut, length-map) h)) ∙ rw (is, e) refl

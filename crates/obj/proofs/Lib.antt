@@ -1,5 +1,4 @@
 pub use Rattle.obj_image.proofs.Rows
-pub use Rattle.obj_image.proofs.Loops
 pub use Rattle.obj_image.proofs.SectionRows
 pub use Rattle.obj_image.proofs.CheckImage
 pub use Rattle.obj_rows.proofs.OutcomeRows

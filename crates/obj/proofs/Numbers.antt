@@ -2,10 +2,10 @@
 use Prim.Native.Nat.{ℕ, ◌/◌, ◌%◌, ◌<◌}
 use mathlib.Core.Path.{◌≡◌, refl, sym, ap, ◌∙◌}
 use mathlib.Core.Bool.{Bool, true, false, ◌&&◌, and-false}
-use mathlib.Core.List.{List, []}
+use mathlib.Core.List.{List, [], map}
 use native.Mathlib.Omega.{arith}
 use lib.Dec.{leb, eqb}
-use lib.ListN.{length, get_or}
+use lib.ListN.{length, get_or, length-map}
 use borrow.Author.Tests.{eq-eqb, ne_eqb}
 use Rattle.rules.specs.Choice.{if, by_if, if_true, if_false}
 use Rattle.rules.specs.Image.{Image, code_words}
@@ -13,9 +13,11 @@ use Rattle.rules.specs.Given.{Given, OutcomeRow, image_of}
 use Rattle.rules.specs.Check as rules
 use Rattle.obj_image.specs.Lent.{lent, rows, outcome_row, symbol_row, skip_row, given, seen}
 use Rattle.obj.specs.Sections.{Few}
-use Rattle.obj_rows.specs.Symbols.{symbol_holds}
 use Rattle.obj.specs.declared.sections.Code.{Code}
-use Rattle.obj_image.proofs.Rows.{rows_count, not_whole}
+use Rattle.obj_image.proofs.Rows.{rows_chunks, not_whole}
+use Rattle.obj_rows.specs.Outcomes.{read_outcome}
+use Rattle.obj_rows.proofs.OutcomeRows.{whole_outcome}
+use Rattle.std.specs.Simd.{first_chunks}
 use Rattle.obj_image.proofs.CheckImage.{For, few_of}
 use Rattle.obj.proofs.Seen.{CodeIs, words_is}
 use Rattle.obj.proofs.Alike.{alike_seen, outcomes_alike, rest_alike}
@@ -39,22 +41,25 @@ module _ (s o : List ℕ) where
       let k : false ≡ rules.all (rules.is_outcome (seen s)) (rows 6 outcome_row o) = not_whole 6 (omega arith) outcome_row (rules.is_outcome (seen s)) (not_an_outcome (seen s)) o h in
       rw (← k) (sym (and-false (eqb (length (rows 6 outcome_row o)) (code_words (seen s)))))
 
-  module _ (c : Code) (is : CodeIs s c) (whole : length o % 6 ≡ 0) where
-    counts : eqb (length (rows 6 outcome_row o)) (code_words (seen s)) ≡ eqb (length o / 6) (c.size / 4)
+  module _ (c : Code) (is : CodeIs s c) (whole : length o % 6 ≡ 0) (cs : List (List ℕ)) (cut : cs ≡ first_chunks 6 (length o / 6) o) where
+    outcome_rows : rows 6 outcome_row o ≡ map read_outcome cs
+    outcome_rows = rows_chunks 6 (omega arith) outcome_row read_outcome (λ x h. whole_outcome x h) o whole ∙ ap (map read_outcome) (sym cut)
+
+    counts : eqb (length (rows 6 outcome_row o)) (code_words (seen s)) ≡ eqb (length cs) (c.size / 4)
     unfolding code_words
-    counts = rw (← rows_count 6 (omega arith) outcome_row o whole, words_is s c is) refl
+    counts = rw (outcome_rows, length-map, words_is s c is) refl
 
-    pub outcomes_are : (b : Bool) → length o / 6 ≡ c.size / 4 → b ≡ rules.all (rules.is_outcome (seen s)) (rows 6 outcome_row o) → b ≡ rules.check_outcomes (seen s) outcomes_given
+    pub outcomes_are : (b : Bool) → length cs ≡ c.size / 4 → b ≡ rules.all (rules.is_outcome (seen s)) (map read_outcome cs) → b ≡ rules.check_outcomes (seen s) outcomes_given
     unfolding rules.check_outcomes given
-    outcomes_are b h e = e ∙ ap (λ (t : Bool). t && rules.all (rules.is_outcome (seen s)) (rows 6 outcome_row o)) (sym (counts ∙ eq-eqb _ _ h))
+    outcomes_are b h e = rw (counts, eq-eqb _ _ h, outcome_rows) e
 
-    pub outcomes_miscounted : (length o / 6 ≡ c.size / 4 → ⊥) → false ≡ rules.check_outcomes (seen s) outcomes_given
+    pub outcomes_miscounted : (length cs ≡ c.size / 4 → ⊥) → eqb (length cs) (c.size / 4) ≡ rules.check_outcomes (seen s) outcomes_given
     unfolding rules.check_outcomes given
-    outcomes_miscounted h = ap (λ (t : Bool). t && rules.all (rules.is_outcome (seen s)) (rows 6 outcome_row o)) (sym (counts ∙ ne_eqb _ _ h))
+    outcomes_miscounted h = rw (counts, ne_eqb _ _ h) refl
 
 -- ---- check 3
 
-pub rest_is : (s f j k e : List ℕ) (a b c d : Bool) → a ≡ rules.are_symbols (seen s) (symbol_holds (seen s) true) (rows 3 symbol_row f) → b ≡ rules.are_symbols (seen s) (symbol_holds (seen s) false) (rows 3 symbol_row j) → c ≡ rules.are_skips (seen s) (rows 2 skip_row k) → d ≡ rules.are_entries (seen s) e → (a && b && c && d) ≡ rules.check_rest (seen s) (given (lent [] [] [] f j k e))
+pub rest_is : (s f j k e : List ℕ) (a b c d : Bool) → a ≡ rules.are_symbols (seen s) (rules.is_function_symbol (seen s)) (rows 3 symbol_row f) → b ≡ rules.are_symbols (seen s) (rules.is_object_symbol (seen s)) (rows 3 symbol_row j) → c ≡ rules.are_skips (seen s) (rows 2 skip_row k) → d ≡ rules.are_entries (seen s) e → (a && b && c && d) ≡ rules.check_rest (seen s) (given (lent [] [] [] f j k e))
 unfolding rules.check_rest given if
 rest_is s f j k e a b c d ea eb ec ed = rw (ea, eb, ec, ed) refl
 

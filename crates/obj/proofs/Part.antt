@@ -1,8 +1,8 @@
 -- The section of an address with its bytes, from the rows of the sections. Assumes nothing.
-use Prim.Native.Nat.{ℕ, zero, suc, ◌+◌, ◌-◌, ◌≤◌}
-use mathlib.Core.Path.{◌≡◌, refl, sym, ap, ◌∙◌}
+use Prim.Native.Nat.{ℕ, zero, suc, ◌+◌, ◌-◌, ◌<◌, ◌≤◌}
+use mathlib.Core.Path.{◌≡◌, refl, sym, ◌∙◌}
 use mathlib.Core.Bool.{true}
-use mathlib.Core.List.{List, [], ◌∷◌}
+use mathlib.Core.List.{List, [], ◌∷◌, map}
 use native.Mathlib.Omega.{arith}
 use lib.ListN.{length, take, drop, get_or}
 use lib.Seq.{drop-drop}
@@ -15,30 +15,21 @@ use Rattle.rules.specs.Given.{SectionRow, sections_of, kind_of, image_of}
 use Rattle.rules.specs.Check as rules
 use Rattle.rules.proofs.Tests.{and_left, and_right}
 use Rattle.obj_image.specs.Lent.{Lent, rows, section_row, given}
-use Rattle.obj.specs.Sections.{row_of, IsPart}
+use Rattle.obj.specs.Sections.{section_by, read_row, part_in, IsPart}
 use Rattle.obj_image.specs.declared.sections.Section.{Section}
 use Rattle.obj.specs.declared.sections.Part.{Part}
-use Rattle.obj_image.proofs.Rows.{row_end}
 use Rattle.obj.proofs.CodeSection.{bytes_whole, bytes_count}
 
--- the section i of these, whose bytes begin at an offset
-abbrev pub part_in : ℕ → ℕ → List SectionRow → Part
-part_in i at [] = record { kind = 4; base = 0; size = 0; offset = at }
-part_in zero at (r ∷ rs) = record { kind = r.kind; base = r.base; size = r.size; offset = at }
-part_in (suc i) at (r ∷ rs) = part_in i (at + r.given) rs
+-- by index
+pub part_some : (i at : ℕ) (c : List (List ℕ)) (x : Section) (o : ℕ) → i < length c → x ≡ section_by (get_or c i []) → o ≡ at + rules.count_bytes (map read_row (take i c)) → record { kind = x.kind; base = x.base; size = x.size; offset = o } ≡ part_in i at (map read_row c)
+part_some i at [] x o h here e = absurd (omega arith)
+part_some zero at (y ∷ c) x o h here e = let z : o ≡ at = omega arith in rw (z, here) refl
+part_some (suc i) at (y ∷ c) x o h here e = part_some i (at + (read_row y).given) c x o (omega arith) here (omega arith)
 
--- ---- at the returns of the search
-
-module _ (x : Section) (rest tail : List SectionRow) (at : ℕ) (whole : Part) (next : rest ≡ row_of x ∷ tail) where
-  pub part_here : (i : ℕ) → part_in i at rest ≡ whole → i ≡ 0 → record { kind = x.kind; base = x.base; size = x.size; offset = at } ≡ whole
-  part_here i same z = sym (ap (part_in 0 at) next) ∙ ap (λ (j : ℕ). part_in j at rest) (sym z) ∙ same
-
-  pub part_later : (i v : ℕ) → part_in i at rest ≡ whole → v ≡ x.given → (i ≡ 0 → ⊥) → part_in (i - 1) (at + v) tail ≡ whole
-  part_later zero v same e h = absurd (h refl)
-  part_later (suc i) v same e h = let z : suc i - 1 ≡ i = omega arith in rw (e, z) (sym (ap (part_in (suc i) at) next) ∙ same)
-
-pub part_nowhere : (l : List ℕ) (at i o : ℕ) (whole : Part) → part_in i o (rows 4 section_row (drop at l)) ≡ whole → length l ≤ at → record { kind = 4; base = 0; size = 0; offset = o } ≡ whole
-part_nowhere l at i o whole same h = sym (ap (part_in i o) (row_end 4 (omega arith) section_row l at h)) ∙ same
+pub part_none : (i at : ℕ) (c : List (List ℕ)) (o : ℕ) → length c ≤ i → o ≡ at + rules.count_bytes (map read_row c) → record { kind = 4; base = 0; size = 0; offset = o } ≡ part_in i at (map read_row c)
+part_none i at [] o h e = let z : o ≡ at = omega arith in rw z refl
+part_none zero at (x ∷ c) o h e = absurd (omega arith)
+part_none (suc i) at (x ∷ c) o h e = part_none i (at + (read_row x).given) c o (omega arith) (omega arith)
 
 -- ---- what it finds
 

@@ -26,7 +26,7 @@ use Rattle.obj_image.proofs.Rows.{rows_count, whole_of}
 use Rattle.obj_image.proofs.SectionRows.{locate_in, located}
 use Rattle.obj.proofs.CodeSection.{code_in, code_is}
 use Rattle.obj_image.proofs.CheckImage.{few_of}
-use Rattle.obj_rows.proofs.SymbolRows.{not_a_symbol}
+use Rattle.obj_image.proofs.Halves.{half_function, half_object}
 use Rattle.obj_rows.proofs.SkipRows.{not_a_skip}
 use Rattle.obj.proofs.Numbers.{not_an_outcome}
 use Rattle.obj.proofs.Halving.{own_address}
@@ -151,11 +151,11 @@ module _ (l : Lent) (checked : rules.check (given l) ≡ 0) where
   -- every row of each list is whole
   pub whole_functions : length l.functions % 3 ≡ 0
   unfolding if
-  whole_functions = whole_of 3 (omega arith) symbol_row (rules.is_function_symbol (image l)) (not_a_symbol (image l) true) l.functions (and_right (leb (length (rows 3 symbol_row l.functions)) 1024) _ (and_left _ _ functions_pass))
+  whole_functions = whole_of 3 (omega arith) symbol_row (rules.is_function_symbol (image l)) (half_function (image l)) l.functions (and_right (leb (length (rows 3 symbol_row l.functions)) 1024) _ (and_left _ _ functions_pass))
 
   whole_objects : length l.objects % 3 ≡ 0
   unfolding if
-  whole_objects = whole_of 3 (omega arith) symbol_row (rules.is_object_symbol (image l)) (not_a_symbol (image l) false) l.objects (and_right (leb (length (rows 3 symbol_row l.objects)) 1024) _ (and_left _ _ objects_pass))
+  whole_objects = whole_of 3 (omega arith) symbol_row (rules.is_object_symbol (image l)) (half_object (image l)) l.objects (and_right (leb (length (rows 3 symbol_row l.objects)) 1024) _ (and_left _ _ objects_pass))
 
   pub whole_skips : length l.skips % 2 ≡ 0
   whole_skips = whole_of 2 (omega arith) skip_row (rules.is_skip (image l)) (not_a_skip (image l)) l.skips (and_right (leb (length (rows 2 skip_row l.skips)) 64) _ (and_left _ _ skips_pass))

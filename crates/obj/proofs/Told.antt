@@ -4,24 +4,25 @@ use mathlib.Core.Path.{◌≡◌, refl, sym, ap, ◌∙◌}
 use mathlib.Core.Bool.{Bool, true, false}
 use mathlib.Core.List.{List, [], ◌∷◌, ◌++◌, map}
 use native.Mathlib.Omega.{arith}
-use lib.Dec.{leb, eqb}
-use lib.ListN.{drop, get_or}
+use lib.Dec.{eqb}
+use lib.ListN.{length, take, drop, get_or, length-take, length-drop}
+use Rattle.std.specs.Simd.{first_chunks}
 use borrow.Author.Tests.{eqb-false, ne_eqb, le-leb}
 use Rattle.rules.specs.Choice.{if}
 use Rattle.rules.specs.Address.{address_of}
 use Rattle.rules.specs.Image as images
-use Rattle.rules.specs.Given.{branch_of, outcome_of, told_of, image_of}
+use Rattle.rules.specs.Given.{OutcomeRow, branch_of, outcome_of, told_of, image_of}
 use Rattle.obj_image.specs.Lent.{Lent, rows, outcome_row, branch_row, to_number, given, image}
 use Rattle.obj.specs.Sections.{IsCode}
-use Rattle.obj.specs.Outcomes.{row_of, branch_list, outcome_for, told_for}
+use Rattle.obj.specs.Outcomes.{row_of, read_outcome, row_by, to_list, branch_list, outcome_for, told_for}
 use Rattle.obj.specs.declared.sections.Code.{Code}
 use Rattle.obj_rows.specs.declared.outcomes.Row.{Row}
 use Rattle.obj.specs.declared.outcomes.Branch.{Branch}
 use Rattle.obj.specs.declared.outcomes.To.TheVariants.{Nowhere, Address, Table, Elsewhere}
 use Rattle.obj.specs.declared.outcomes.Outcome.{Outcome}
 use Rattle.obj.specs.declared.outcomes.Outcome.TheVariants.{Branches}
-use Rattle.obj_image.proofs.Rows.{by_less, rows_drop, getD_mapped}
-use Rattle.obj_rows.proofs.OutcomeRows.{row_mark}
+use Rattle.obj_image.proofs.Rows.{row_next, rows_drop, getD_mapped, chunk_at}
+use Rattle.obj_rows.proofs.OutcomeRows.{row_mark, whole_outcome}
 
 -- ---- a branch
 
@@ -30,23 +31,23 @@ module _ (way a : ℕ) where
   unfolding if
   one_branch h = rw (ne_eqb way 0 h)
 
-  pub branch_to_address : way % 4 ≡ 1 → branch_list (record { link = eqb (way / 4) 1; to = Address a }) ≡ map branch_of (branch_row way a)
+  pub branch_to_address : way % 4 ≡ 1 → to_list (eqb (way / 4) 1) (Address a) ≡ map branch_of (branch_row way a)
   unfolding if
   branch_to_address h = sym (one_branch (λ z. omega arith) ∙ rw h)
 
-  pub branch_to_table : way % 4 ≡ 2 → branch_list (record { link = eqb (way / 4) 1; to = Table a }) ≡ map branch_of (branch_row way a)
+  pub branch_to_table : way % 4 ≡ 2 → to_list (eqb (way / 4) 1) (Table a) ≡ map branch_of (branch_row way a)
   unfolding if
   branch_to_table h = sym (one_branch (λ z. omega arith) ∙ rw h)
 
-  pub branch_to_none : way ≡ 0 → a ≡ 0 → branch_list (record { link = eqb (way / 4) 1; to = Nowhere }) ≡ map branch_of (branch_row way a)
+  pub branch_to_none : way ≡ 0 → a ≡ 0 → to_list (eqb (way / 4) 1) Nowhere ≡ map branch_of (branch_row way a)
   unfolding if
   branch_to_none h k = rw (h, k)
 
-  pub branch_unmarked : way ≡ 0 → (a ≡ 0 → ⊥) → branch_list (record { link = eqb (way / 4) 1; to = Elsewhere }) ≡ map branch_of (branch_row way a)
+  pub branch_unmarked : way ≡ 0 → (a ≡ 0 → ⊥) → to_list (eqb (way / 4) 1) Elsewhere ≡ map branch_of (branch_row way a)
   unfolding if
   branch_unmarked h k = rw (h, ne_eqb a 0 k)
 
-  pub branch_elsewhere : (way ≡ 0 → ⊥) → (way % 4 ≡ 1 → ⊥) → (way % 4 ≡ 2 → ⊥) → branch_list (record { link = eqb (way / 4) 1; to = Elsewhere }) ≡ map branch_of (branch_row way a)
+  pub branch_elsewhere : (way ≡ 0 → ⊥) → (way % 4 ≡ 1 → ⊥) → (way % 4 ≡ 2 → ⊥) → to_list (eqb (way / 4) 1) Elsewhere ≡ map branch_of (branch_row way a)
   unfolding if
   branch_elsewhere h k m = sym (one_branch h ∙ go (eqb (way % 4) 0) refl)
     where
@@ -57,7 +58,7 @@ module _ (way a : ℕ) where
           low zero f g q = f refl
           low (suc n) f g q = g (omega arith)
 
-      go : (b : Bool) → eqb (way % 4) 0 ≡ b → (record { link = eqb (way / 4) 1; to = if (eqb (if b 3 (way % 4 - 1)) 0) (images.to_address a) (if (eqb (if b 3 (way % 4 - 1)) 1) (images.to_table a) images.elsewhere) } ∷ []) ≡ branch_list (record { link = eqb (way / 4) 1; to = Elsewhere })
+      go : (b : Bool) → eqb (way % 4) 0 ≡ b → (record { link = eqb (way / 4) 1; to = if (eqb (if b 3 (way % 4 - 1)) 0) (images.to_address a) (if (eqb (if b 3 (way % 4 - 1)) 1) (images.to_table a) images.elsewhere) } ∷ []) ≡ to_list (eqb (way / 4) 1) Elsewhere
       go true e = refl
       go false e = rw ((other e).0, (other e).1)
 
@@ -72,23 +73,11 @@ module _ (r : Row) where
   pub of_kind : (k : ℕ) (t : images.Outcome) → r.kind ≡ k → t ≡ outcome_of (row_of (record { kind = k; mark = r.mark; first = r.first; second = r.second; third = r.third; fourth = r.fourth })) → t ≡ outcome_of (row_of r)
   of_kind k t e h = rw e h
 
-  pub of_list : (b d : Branch) → (r.kind ≡ 0 → ⊥) → (r.kind ≡ 1 → ⊥) → (r.kind ≡ 2 → ⊥) → (r.kind ≡ 3 → ⊥) → (r.kind ≡ 4 → ⊥) → (r.kind ≡ 5 → ⊥) → branch_list b ≡ map branch_of (branch_row r.first r.second) → branch_list d ≡ map branch_of (branch_row r.third r.fourth) → outcome_for (Branches b d) ≡ outcome_of (row_of r)
+  pub of_list : (b d : Branch) → 6 ≤ r.kind → branch_list b ≡ map branch_of (branch_row r.first r.second) → branch_list d ≡ map branch_of (branch_row r.third r.fourth) → outcome_for (Branches b d) ≡ outcome_of (row_of r)
   unfolding if
-  of_list b d n0 n1 n2 n3 n4 n5 e f =
-      let high : leb 6 r.kind ≡ true = le-leb 6 r.kind (six r.kind n0 n1 n2 n3 n4 n5) in
-      rw (high, ne_eqb r.kind 0 n0, ne_eqb r.kind 1 n1, ne_eqb r.kind 2 n2, ne_eqb r.kind 3 n3, ne_eqb r.kind 4 n4, ne_eqb r.kind 5 n5, map_append branch_of (branch_row r.first r.second) (branch_row r.third r.fourth), e, f) refl
-    where
-      six : (n : ℕ) → (n ≡ 0 → ⊥) → (n ≡ 1 → ⊥) → (n ≡ 2 → ⊥) → (n ≡ 3 → ⊥) → (n ≡ 4 → ⊥) → (n ≡ 5 → ⊥) → 6 ≤ n
-      six n a b c d e f = by_less n 6 (λ h. absurd (low n a b c d e f h)) (λ h. h)
-        where
-          low : (n : ℕ) → (n ≡ 0 → ⊥) → (n ≡ 1 → ⊥) → (n ≡ 2 → ⊥) → (n ≡ 3 → ⊥) → (n ≡ 4 → ⊥) → (n ≡ 5 → ⊥) → n < 6 → ⊥
-          low zero a b c d e f h = a refl
-          low (suc zero) a b c d e f h = b refl
-          low (suc (suc zero)) a b c d e f h = c refl
-          low (suc (suc (suc zero))) a b c d e f h = d refl
-          low (suc (suc (suc (suc zero)))) a b c d e f h = e refl
-          low (suc (suc (suc (suc (suc zero))))) a b c d e f h = f refl
-          low (suc (suc (suc (suc (suc (suc n)))))) a b c d e f h = omega arith
+  of_list b d high e f =
+      let ne : (n : ℕ) → n < 6 → eqb r.kind n ≡ false = λ n h. ne_eqb r.kind n (λ q. omega arith) in
+      rw (le-leb 6 r.kind high, ne 0 (omega arith), ne 1 (omega arith), ne 2 (omega arith), ne 3 (omega arith), ne 4 (omega arith), ne 5 (omega arith), map_append branch_of (branch_row r.first r.second) (branch_row r.third r.fourth), e, f) refl
 
 -- ---- at an address
 
@@ -97,6 +86,15 @@ told o m = record { outcome = o; mark = m }
 
 abbrev nothing : images.Told
 nothing = told images.illegal false
+
+-- the row i, as std cuts it
+pub told_row : (o : List ℕ) (cs : List (List ℕ)) → cs ≡ first_chunks 6 (length o / 6) o → (i : ℕ) → i * 6 + 6 ≤ length o → (r : Row) → r ≡ row_by (get_or cs i []) → rows 6 outcome_row (drop (i * 6) o) ≡ row_of r ∷ rows 6 outcome_row (drop (i * 6 + 6) o)
+told_row o cs cut i h r here =
+    let c : List ℕ = take 6 (drop (i * 6) o) in
+    let six : length c ≡ 6 = rw (length-take, length-drop) (omega arith) in
+    let e : get_or cs i [] ≡ c = ap (λ (l : List (List ℕ)). get_or l i []) cut ∙ chunk_at 6 (length o / 6) o i (omega arith) in
+    row_next 6 (omega arith) outcome_row o (i * 6) (omega arith)
+    ∙ ap (λ (x : OutcomeRow). x ∷ rows 6 outcome_row (drop (i * 6 + 6) o)) (whole_outcome c six ∙ ap read_outcome (sym e) ∙ ap row_of (sym here))
 
 pub told_is : (o : List ℕ) (c : Code) (k a i : ℕ) (r : Row) (u : Outcome) → a ≡ address_of k → i ≡ (a - c.base) / 4 → rows 6 outcome_row (drop (i * 6) o) ≡ row_of r ∷ rows 6 outcome_row (drop (i * 6 + 6) o) → outcome_for u ≡ outcome_of (row_of r) → (l : Lent) → l.outcomes ≡ o → IsCode l c → told_for (record { outcome = u; mark = eqb r.mark 1 }) ≡ images.told_at (image l) k
 unfolding images.told_at images.index image_of given

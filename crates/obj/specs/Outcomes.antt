@@ -9,7 +9,7 @@ use Rattle.obj.specs.declared.outcomes.To.{To}
 use Rattle.obj.specs.declared.outcomes.To.TheVariants.{Nowhere, Address, Table, Elsewhere}
 use Rattle.obj.specs.declared.outcomes.Outcome.{Outcome}
 use Rattle.obj.specs.declared.outcomes.Outcome.TheVariants.{GoOn, Illegal, Unknown, Return, Jump, JumpTable, Branches}
-pub use Rattle.obj_rows.specs.Outcomes.{row_of}
+pub use Rattle.obj_rows.specs.Outcomes.{row_by, row_of, read_outcome}
 
 -- a branch by value: one that goes nowhere is none
 abbrev pub to_list : Bool → To → List images.Branch

@@ -7,21 +7,18 @@ ghost use Rattle.obj.specs.Sections.{Few};
 use crate::outcomes::check_outcomes;
 use crate::sections::check_image;
 use crate::skips::are_skips;
-use crate::symbols::{are_symbols, is_code_address};
+use crate::symbols::{are_functions, are_objects, is_code_address};
 
 // The entry point, if given, is an aligned code address.
 fn are_entries(sections: &[u32], entry: &[u32]) -> bool
     requires { Few sections.now }
     ensures { result ≡ rules.are_entries (seen sections.now) entry.now }
 {
-    if entry.len() == 0 {
-        return true;
+    match entry {
+        [] => true,
+        [a] => (*a % 4 == 0) & is_code_address(sections, *a),
+        _ => false,
     }
-    if entry.len() == 1 {
-        let a = entry[0];
-        return (a % 4 == 0) & is_code_address(sections, a);
-    }
-    false
 }
 
 // Number 3: whether no symbol, skip range or entry breaks a rule.
@@ -37,8 +34,8 @@ fn check_rest(
         (given
         (lent [] [] [] functions.now objects.now skips.now entry.now)) }
 {
-    are_symbols(sections, functions, true)
-        & are_symbols(sections, objects, false)
+    are_functions(sections, functions)
+        & are_objects(sections, objects)
         & are_skips(sections, skips)
         & are_entries(sections, entry)
 }
@@ -58,14 +55,13 @@ pub fn check(
         (lent sections.now bytes.now outcomes.now functions.now
         objects.now skips.now entry.now)) }
 {
-    if check_image(sections, bytes) {
-        if check_outcomes(sections, outcomes) {
-            if check_rest(sections, functions, objects, skips, entry) {
-                return 0;
-            }
-            return 3;
-        }
-        return 2;
+    if !check_image(sections, bytes) {
+        1
+    } else if !check_outcomes(sections, outcomes) {
+        2
+    } else if !check_rest(sections, functions, objects, skips, entry) {
+        3
+    } else {
+        0
     }
-    1
 }

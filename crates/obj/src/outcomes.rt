@@ -1,15 +1,15 @@
 // What each code word does: what check 2 asks of it, and the outcome at an address.
-ghost use Rattle.std.specs.Prelude.{◌≡◌, [], map};
+ghost use Rattle.std.specs.Prelude.{◌≡◌, ◌≤◌, ◌/◌, [], eqb, map};
 ghost use Rattle.rules.specs.Check as rules;
 ghost use Rattle.rules.specs.Image as images;
 ghost use Rattle.obj_image.specs.Lent.{Lent, lent, branch_row, given, image, seen};
 ghost use Rattle.obj.specs.Sections.{Few, IsCode};
 ghost use Rattle.rules.specs.Given.{branch_of, outcome_of};
-ghost use Rattle.obj.specs.Outcomes.{row_of, branch_list, outcome_for, told_for, InCode};
+ghost use Rattle.obj.specs.Outcomes.{row_of, branch_list, to_list, outcome_for, told_for, InCode};
 
 use crate::sections::{Code, code_section};
 pub use obj_rows::outcomes::Row;
-use obj_rows::outcomes::{are_outcomes, row_at};
+use obj_rows::outcomes::{Kind, are_outcomes};
 
 // Where a branch goes. One that goes nowhere is none.
 #[derive(Clone, Copy)]
@@ -51,60 +51,62 @@ pub fn check_outcomes(sections: &[u32], outcomes: &[u32]) -> bool
     ensures { result ≡ rules.check_outcomes (seen sections.now)
         (given (lent sections.now [] outcomes.now [] [] [] [])) }
 {
-    if outcomes.len() % 6 == 0 {
-        let words = code_section(sections).size / 4;
-        if outcomes.len() / 6 == words as usize {
-            return are_outcomes(sections, outcomes);
-        }
+    let (outcomes, []) = outcomes.as_chunks::<6>() else {
+        return false;
+    };
+    let words = code_section(sections).size / 4;
+    outcomes.len() == words as usize && are_outcomes(sections, outcomes)
+}
+
+// Where the branch of two numbers of a row goes.
+fn to_of(way: u32, a: u32) -> To
+    ensures { to_list (eqb (way / 4) 1) result ≡ map branch_of (branch_row way a) }
+{
+    match way % 4 {
+        1 => To::Address(a),
+        2 => To::Table(a),
+        _ => {
+            if way == 0 && a == 0 {
+                To::Nowhere
+            } else {
+                To::Elsewhere
+            }
+        },
     }
-    false
 }
 
 // The branch of two numbers of a row.
 fn branch_of(way: u32, a: u32) -> Branch
     ensures { branch_list result ≡ map branch_of (branch_row way a) }
 {
-    let link = way / 4 == 1;
-    let to = way % 4;
-    if to == 1 {
-        return Branch {
-            link,
-            to: To::Address(a),
-        };
-    }
-    if to == 2 {
-        return Branch {
-            link,
-            to: To::Table(a),
-        };
-    }
-    if way == 0 {
-        if a == 0 {
-            return Branch {
-                link,
-                to: To::Nowhere,
-            };
-        }
-    }
     Branch {
-        link,
-        to: To::Elsewhere,
+        link: way / 4 == 1,
+        to: to_of(way, a),
     }
+}
+
+// The list of a row of kind 6 or more.
+fn branches_of(r: Row) -> Outcome
+    requires { 6 ≤ r.kind }
+    ensures { outcome_for result ≡ outcome_of (row_of r) }
+{
+    Outcome::Branches(branch_of(r.first, r.second), branch_of(r.third, r.fourth))
 }
 
 // The outcome of a row, by its kind.
 fn outcome_of(r: Row) -> Outcome
     ensures { outcome_for result ≡ outcome_of (row_of r) }
 {
-    let kind = r.kind;
-    match kind {
-        0 => Outcome::GoOn,
-        1 => Outcome::Illegal,
-        2 => Outcome::Unknown,
-        3 => Outcome::Return,
-        4 => Outcome::Jump(r.first),
-        5 => Outcome::JumpTable(r.first, r.second),
-        _ => Outcome::Branches(branch_of(r.first, r.second), branch_of(r.third, r.fourth)),
+    match Kind::try_from(r.kind) {
+        Ok(Kind::GoOn) => Outcome::GoOn,
+        Ok(Kind::Illegal) => Outcome::Illegal,
+        Ok(Kind::Unknown) => Outcome::Unknown,
+        Ok(Kind::Return) => Outcome::Return,
+        Ok(Kind::Jump) => Outcome::Jump(r.first),
+        Ok(Kind::JumpTable) => Outcome::JumpTable(r.first, r.second),
+        Ok(Kind::Branches) => branches_of(r),
+        // of a row that check 2 refuses
+        Err(_) => branches_of(r),
     }
 }
 
@@ -117,8 +119,8 @@ pub fn told_at(outcomes: &[u32], code: Code, key: u64) -> Told
         told_for result ≡ images.told_at (image l) key }
 {
     let a = (key % 0x1_0000_0000) as u32;
-    let i = (a - code.base) / 4;
-    let r = row_at(outcomes, i as usize * 6);
+    let (outcomes, _) = outcomes.as_chunks::<6>();
+    let r = Row::from(&outcomes[(a - code.base) as usize / 4]);
     Told {
         outcome: outcome_of(r),
         mark: r.mark == 1,

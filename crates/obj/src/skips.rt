@@ -1,13 +1,13 @@
 // The skip ranges: what check 3 asks of them, and the range that holds an address.
-ghost use Rattle.std.specs.Prelude.{◌≡◌, ◌%◌, length};
+ghost use Rattle.std.specs.Prelude.{◌≡◌, map};
 ghost use Rattle.rules.specs.Check as rules;
 ghost use Rattle.obj_image.specs.Lent.{rows, skip_row, seen};
 ghost use Rattle.obj.specs.Sections.{Few};
-ghost use Rattle.obj_rows.specs.Skips.{range_of};
+ghost use Rattle.obj_rows.specs.Skips.{range_of, read_range};
 
 use crate::sections::{code_section, wide};
+use obj_rows::skips::skips_ascend;
 pub use obj_rows::skips::{Range, in_skipped_range, skip_range};
-use obj_rows::skips::{range_at, skips_ascend};
 
 // Skip ranges are nonempty, aligned, inside code.
 fn is_skip(sections: &[u32], r: Range) -> bool
@@ -22,19 +22,11 @@ fn is_skip(sections: &[u32], r: Range) -> bool
         & (wide(r.past) <= wide(code.base) + wide(code.size))
 }
 
-fn all_skips(sections: &[u32], skips: &[u32]) -> bool
-    requires { Few sections.now × length skips.now % 2 ≡ 0 }
-    ensures { result ≡ rules.all (rules.is_skip (seen sections.now)) (rows 2 skip_row skips.now) }
+fn all_skips(sections: &[u32], skips: &[[u32; 2]]) -> bool
+    requires { Few sections.now }
+    ensures { result ≡ rules.all (rules.is_skip (seen sections.now)) (map read_range skips.now) }
 {
-    let mut at: usize = 0;
-    while at < skips.len() {
-        if is_skip(sections, range_at(skips, at)) {
-            at += 2;
-        } else {
-            return false;
-        }
-    }
-    true
+    skips.iter().map(Range::from).all(|r| is_skip(sections, r))
 }
 
 // At most 64.
@@ -42,8 +34,8 @@ pub fn are_skips(sections: &[u32], skips: &[u32]) -> bool
     requires { Few sections.now }
     ensures { result ≡ rules.are_skips (seen sections.now) (rows 2 skip_row skips.now) }
 {
-    if skips.len() % 2 == 0 {
-        return (skips.len() / 2 <= 64) & all_skips(sections, skips) & skips_ascend(skips);
-    }
-    false
+    let (skips, []) = skips.as_chunks::<2>() else {
+        return false;
+    };
+    (skips.len() <= 64) & all_skips(sections, skips) & skips_ascend(skips)
 }

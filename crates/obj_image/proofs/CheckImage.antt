@@ -2,7 +2,8 @@
 use Prim.Native.Nat.{ℕ, ◌/◌, ◌%◌, ◌≤◌, ◌<◌}
 use mathlib.Core.Path.{◌≡◌, refl, sym, ap, ◌∙◌}
 use mathlib.Core.Bool.{Bool, true, false, false≢true, ◌&&◌}
-use mathlib.Core.List.{List, [], ◌∷◌}
+use mathlib.Core.List.{List, [], ◌∷◌, map}
+use Rattle.std.specs.Simd.{first_chunks}
 use native.Mathlib.Omega.{arith}
 use lib.Dec.{leb, eqb}
 use lib.ListN.{length, get_or}
@@ -12,7 +13,8 @@ use Rattle.rules.specs.Given.{SectionRow}
 use Rattle.rules.specs.Check as rules
 use Rattle.rules.proofs.Tests.{and_left, and_right}
 use Rattle.obj_image.specs.Lent.{Lent, rows, section_row, given}
-use Rattle.obj_image.specs.Sections.{section_holds, Few}
+use Rattle.obj_image.specs.Sections.{read_row, section_holds, image_holds, Few}
+use Rattle.obj_image.proofs.Chains.{section_rows}
 use Rattle.obj_image.proofs.Rows.{rows_count, not_whole}
 
 -- two tests of each row are one
@@ -34,16 +36,17 @@ all_four l =
     ∙ ap (λ (t : Bool). t && rules.all rules.code_fits l) (all_both rules.is_kind rules.is_placed l))
 
 -- the same tests, in the order of `rules`
-reorder : (o k p n f h a : Bool) → (o && (k && p && f && h) && n && a) ≡ (o && k && p && n && f && h && a)
-reorder false k p n f h a = refl
-reorder true false p n f h a = refl
-reorder true true false n f h a = refl
-reorder true true true true true true a = refl
-reorder true true true true true false a = refl
-reorder true true true true false h a = refl
-reorder true true true false true true a = refl
-reorder true true true false true false a = refl
-reorder true true true false false h a = refl
+reorder : (n o k p a f h b : Bool) → (n && (o && (k && p && f && h) && a && b)) ≡ (n && o && k && p && a && f && h && b)
+reorder false o k p a f h b = refl
+reorder true false k p a f h b = refl
+reorder true true false p a f h b = refl
+reorder true true true false a f h b = refl
+reorder true true true true true true true b = refl
+reorder true true true true true true false b = refl
+reorder true true true true true false h b = refl
+reorder true true true true false true true b = refl
+reorder true true true true false true false b = refl
+reorder true true true true false false h b = refl
 
 -- a section that is not whole has no kind
 not_a_kind : (c : List ℕ) → length c < 4 → rules.is_kind (section_row c) ≡ false
@@ -60,15 +63,19 @@ module _ (s : List ℕ) (few : Bool) (is : few ≡ rules.few_sections (rows 4 se
       let n : length (rows 4 section_row s) ≤ 8 = leb-true _ _ (and_right (leb 1 (length (rows 4 section_row s))) _ (sym is ∙ t)) in
       record { whole = h; few = omega arith }
 
-  pub image_many : few ≡ false → (l : Lent) → l.sections ≡ s → false ≡ rules.check_image (given l)
+-- whole rows, as std cuts them; n is whether there are 1 to 8
+module _ (s b : List ℕ) (whole : length s % 4 ≡ 0) (c : List (List ℕ)) (cut : c ≡ first_chunks 4 (length s / 4) s) (n : Bool) (is : n ≡ rules.few_sections (map read_row c)) where
+  check_is : For s b (λ l. rules.check_image (given l)) (n && image_holds (map read_row c) b)
   unfolding rules.check_image given
-  image_many t l e = rw (e, ← is, t) refl
+  check_is l e f =
+      rw (e, f, section_rows s whole c cut, is, all_four (map read_row c))
+      (reorder (rules.few_sections (map read_row c)) (rules.one_code (map read_row c)) (rules.all rules.is_kind (map read_row c)) (rules.all rules.is_placed (map read_row c)) (rules.none_overlap (map read_row c)) (rules.all rules.code_fits (map read_row c)) (rules.all rules.has_bytes (map read_row c)) _)
 
-  pub image_is : (b : List ℕ) (one four none up : Bool) → few ≡ true → one ≡ rules.one_code (rows 4 section_row s) → four ≡ rules.all section_holds (rows 4 section_row s) → none ≡ rules.none_overlap (rows 4 section_row s) → For s b (λ l. rules.bytes_add_up (given l)) up → For s b (λ l. rules.check_image (given l)) (one && four && none && up)
-  unfolding rules.check_image given
-  image_is b one four none up t o a n u l e f =
-      rw (u l e f, o, a ∙ all_four (rows 4 section_row s), n, e, ← is, t)
-      (reorder (rules.one_code (rows 4 section_row s)) (rules.all rules.is_kind (rows 4 section_row s)) (rules.all rules.is_placed (rows 4 section_row s)) (rules.none_overlap (rows 4 section_row s)) (rules.all rules.code_fits (rows 4 section_row s)) (rules.all rules.has_bytes (rows 4 section_row s)) _)
+  pub image_is : n ≡ true → For s b (λ l. rules.check_image (given l)) (image_holds (map read_row c) b)
+  image_is h l e f = ap (λ (t : Bool). t && image_holds (map read_row c) b) (sym h) ∙ check_is l e f
+
+  pub image_many : n ≡ false → For s b (λ l. rules.check_image (given l)) n
+  image_many h l e f = h ∙ ap (λ (t : Bool). t && image_holds (map read_row c) b) (sym h) ∙ check_is l e f
 
 pub image_broken : (s : List ℕ) → (length s % 4 ≡ 0 → ⊥) → (l : Lent) → l.sections ≡ s → false ≡ rules.check_image (given l)
 unfolding rules.check_image given

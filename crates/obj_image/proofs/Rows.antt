@@ -10,6 +10,7 @@ use lib.Dec.{ltb, eqb}
 use borrow.Author.Tests.{ltb-true, ltb-false, eqb-true, eqb-false}
 use lib.ListN.{length, take, drop, get_or, length-take, length-drop}
 use lib.Seq.{drop-drop, drop-cons}
+use Rattle.std.specs.Simd.{first_chunks}
 use Rattle.rules.specs.Check.{all}
 use Rattle.obj_image.specs.Lent.{rows, rows_from}
 
@@ -138,3 +139,25 @@ module _ (l : List ℕ) (at : ℕ) where
 
   pub row_here : {A : Type 0} (n : ℕ) (row : List ℕ → A) → at + suc n ≤ length l → rows (suc n) row (drop at l) ≡ row (get_or l at 0 ∷ numbers 1 n) ∷ rows (suc n) row (drop (at + suc n) l)
   row_here n row h = rw (← row_numbers n h) (row_next (suc n) (omega arith) row l at (omega arith))
+
+-- ---- whole rows, as std cuts them
+
+pub chunk_at : (w n : ℕ) (l : List ℕ) (i : ℕ) → i < n → get_or (first_chunks w n l) i [] ≡ take w (drop (i * w) l)
+chunk_at w zero l i h = absurd (omega arith)
+chunk_at w (suc n) l zero h = rw (zero-mul w) refl
+chunk_at w (suc n) l (suc i) h =
+    let step : suc i * w ≡ w + i * w = suc-mul i w ∙ omega arith in
+    chunk_at w n (drop w l) i (omega arith) ∙ rw (step, ← drop-drop (i * w) w l) refl
+
+module _ {A : Type 0} (w : ℕ) (pos : 0 < w) (row read : List ℕ → A) (same : (c : List ℕ) → length c ≡ w → row c ≡ read c) where
+  chunks_are : (n : ℕ) (l : List ℕ) → n * w ≤ length l → rows_from w row n l ≡ map read (first_chunks w n l)
+  chunks_are zero l h = refl
+  chunks_are (suc n) l h =
+      let step : suc n * w ≡ w + n * w = suc-mul n w ∙ omega arith in
+      rw (same (take w l) (rw length-take (omega arith)), chunks_are n (drop w l) (rw length-drop (omega arith))) refl
+
+  pub rows_chunks : (l : List ℕ) → length l % w ≡ 0 → rows w row l ≡ map read (first_chunks w (length l / w) l)
+  unfolding rows
+  rows_chunks l h =
+      let e : length l ≡ length l / w * w = omega (arith, div-add-mod' (length l) w) in
+      rw (← rows_length w pos row l, ← rows_count w pos row l h) (chunks_are (length l / w) l (omega arith))

@@ -12,13 +12,20 @@ use Rattle.rules.specs.Image.{Image}
 use Rattle.rules.specs.Given.{BranchRow, OutcomeRow}
 use Rattle.rules.specs.Check as rules
 use Rattle.obj_image.specs.Lent.{rows, outcome_row, branch_row, to_number}
-use Rattle.obj_rows.specs.Outcomes.{row_of}
+use Rattle.obj_rows.specs.Outcomes.{row_of, read_outcome, number_of}
+use Rattle.obj_rows.specs.declared.outcomes.Kind.{Kind}
+use Rattle.obj_rows.specs.declared.outcomes.Kind.TheVariants.{GoOn, Illegal, Unknown, Return, Jump, JumpTable, Branches}
 use Rattle.obj_rows.specs.declared.outcomes.Row.{Row}
 use Rattle.obj_image.proofs.Rows.{row_here, middle_false}
 
 -- an outcome's row, by its numbers
 pub outcome_here : (l : List ℕ) (at : ℕ) → at + 6 ≤ length l → rows 6 outcome_row (drop at l) ≡ row_of (record { kind = get_or l at 0; mark = get_or l (at + 1) 0; first = get_or l (at + 2) 0; second = get_or l (at + 3) 0; third = get_or l (at + 4) 0; fourth = get_or l (at + 5) 0 }) ∷ rows 6 outcome_row (drop (at + 6) l)
 outcome_here l at h = row_here l at 5 outcome_row h
+
+-- six numbers are a row
+pub whole_outcome : (c : List ℕ) → length c ≡ 6 → outcome_row c ≡ read_outcome c
+unfolding if
+whole_outcome c h = rw h refl
 
 -- ---- check 2
 
@@ -38,21 +45,30 @@ module _ (im : Image) (way a : ℕ) where
       go true = refl
       go false = refl
 
-  module _ (some : way ≡ 0 → ⊥) where
-    pub to_nowhere : way % 4 ≡ 0 → false ≡ rules.all (rules.is_branch_row im) (branch_row way a)
-    unfolding if
-    to_nowhere h = sym (one_branch some ∙ rw (eq-eqb (way % 4) 0 h) (middle_false (leb (way / 4) 1) _))
+  pub to_nowhere : (way ≡ 0 → ⊥) → way % 4 ≡ 0 → false ≡ rules.all (rules.is_branch_row im) (branch_row way a)
+  unfolding if
+  to_nowhere some h = sym (one_branch some ∙ rw (eq-eqb (way % 4) 0 h) (middle_false (leb (way / 4) 1) _))
 
-    pub to_elsewhere : way % 4 ≡ 3 → (leb (way / 4) 1 && eqb a 0) ≡ rules.all (rules.is_branch_row im) (branch_row way a)
-    unfolding if
-    to_elsewhere h = sym (one_branch some ∙ rw h (ap (λ (t : Bool). t && eqb a 0) (and-true (leb (way / 4) 1))))
+  pub to_elsewhere : way % 4 ≡ 3 → (leb (way / 4) 1 && eqb a 0) ≡ rules.all (rules.is_branch_row im) (branch_row way a)
+  unfolding if
+  to_elsewhere h = sym (one_branch (λ z. omega arith) ∙ rw h (ap (λ (t : Bool). t && eqb a 0) (and-true (leb (way / 4) 1))))
 
-    pub to_inside : (b : Bool) → (way % 4 ≡ 0 → ⊥) → (way % 4 ≡ 3 → ⊥) → b ≡ rules.is_inside im a → (leb (way / 4) 1 && b) ≡ rules.all (rules.is_branch_row im) (branch_row way a)
-    unfolding if
-    to_inside b h k e =
-        let n : eqb (way % 4 - 1) 2 ≡ false = ne_eqb (way % 4 - 1) 2 (λ q. k (omega arith)) in
-        let m : leb (way % 4 - 1) 2 ≡ true = le-leb (way % 4 - 1) 2 (omega arith) in
-        rw e (sym (one_branch some ∙ rw (ne_eqb (way % 4) 0 h, n, m) (ap (λ (t : Bool). t && rules.is_inside im a) (and-true (leb (way / 4) 1)))))
+  pub to_inside : (b : Bool) → (way % 4 ≡ 0 → ⊥) → (way % 4 ≡ 3 → ⊥) → b ≡ rules.is_inside im a → (leb (way / 4) 1 && b) ≡ rules.all (rules.is_branch_row im) (branch_row way a)
+  unfolding if
+  to_inside b h k e =
+      let n : eqb (way % 4 - 1) 2 ≡ false = ne_eqb (way % 4 - 1) 2 (λ q. k (omega arith)) in
+      let m : leb (way % 4 - 1) 2 ≡ true = le-leb (way % 4 - 1) 2 (omega arith) in
+      rw e (sym (one_branch (λ z. h (rw z refl)) ∙ rw (ne_eqb (way % 4) 0 h, n, m) (ap (λ (t : Bool). t && rules.is_inside im a) (and-true (leb (way / 4) 1)))))
+
+-- the kinds' numbers
+pub number_small : (k : Kind) → number_of k ≤ 6
+number_small GoOn = omega arith
+number_small Illegal = omega arith
+number_small Unknown = omega arith
+number_small Return = omega arith
+number_small Jump = omega arith
+number_small JumpTable = omega arith
+number_small Branches = omega arith
 
 -- no branch is two zeros
 no_branch : (c d : ℕ) → eqb (length (branch_row c d)) 0 ≡ (eqb c 0 && eqb d 0)
@@ -94,11 +110,9 @@ module _ (im : Image) (r : Row) where
   unfolding if
   table_fits b h e = rw (h, no_branch r.third r.fourth, e) refl
 
-  pub jump_fits : (b : Bool) → r.kind ≤ 6 → 3 < r.kind → (r.kind ≡ 6 → ⊥) → (r.kind ≡ 5 → ⊥) → b ≡ rules.is_inside im r.first → (b && eqb r.second 0 && (eqb r.third 0 && eqb r.fourth 0)) ≡ rules.fits_kind im (row_of r)
+  pub jump_fits : (b : Bool) → r.kind ≡ 4 → b ≡ rules.is_inside im r.first → (b && eqb r.second 0 && (eqb r.third 0 && eqb r.fourth 0)) ≡ rules.fits_kind im (row_of r)
   unfolding if
-  jump_fits b le low six five e =
-      let h : r.kind ≡ 4 = omega (arith, six, five) in
-      rw (h, no_branch r.third r.fourth, e) refl
+  jump_fits b h e = rw (h, no_branch r.third r.fourth, e) refl
 
   pub plain_fits : r.kind ≤ 3 → (eqb r.first 0 && eqb r.second 0 && (eqb r.third 0 && eqb r.fourth 0)) ≡ rules.fits_kind im (row_of r)
   unfolding if

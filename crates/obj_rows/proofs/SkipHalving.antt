@@ -1,12 +1,12 @@
 -- Skip ranges by halving: of ranges that ascend, only the last that begins at an address or below it can hold it. Assumes nothing.
-use Prim.Native.Nat.{ℕ, zero, suc, ◌+◌, ◌*◌, ◌-◌, ◌/◌, ◌≤◌, ◌<◌}
+use Prim.Native.Nat.{ℕ, zero, suc, ◌+◌, ◌/◌, ◌≤◌, ◌<◌}
 use mathlib.Core.Path.{◌≡◌, refl, sym, ap, ◌∙◌}
 use mathlib.Core.Bool.{Bool, true, false, and-false}
 use mathlib.Core.List.{List, [], ◌∷◌, map}
 use native.Mathlib.Omega.{arith}
 use lib.Dec.{ltb, leb}
-use lib.ListN.{length, take, drop, get_or, length-map}
-use lib.Seq.{take_all}
+use lib.ListN.{length, drop, get_or, length-map, get_or-map}
+use lib.Seq.{drop-cons}
 use borrow.Author.Tests.{ltb-true, ltb-false, leb-true, lt-leb, le-ltb}
 use Rattle.rules.specs.Choice.{if, if_true, if_false}
 use Rattle.rules.specs.Ordered.{self, rank, Rising}
@@ -14,15 +14,14 @@ use Rattle.rules.specs.Image as images
 use Rattle.rules.specs.Image.{in_range}
 use Rattle.rules.specs.Check as rules
 use Rattle.rules.proofs.Tests.{and_left, and_right}
-use Rattle.ordered.proofs.Arrays.{Halved, halved_up, halved_down, halved_end}
+use Rattle.std.specs.Simd.{first_chunks}
 use Rattle.obj_image.specs.Lent.{rows, skip_row, seen}
-use Rattle.obj_image.proofs.Rows.{rows_count, rows_drop, getD_mapped}
-use Rattle.obj_rows.specs.Skips.{range_of, is_nonempty, Ascending, firsts, IsSkipped}
+use Rattle.obj_rows.specs.Skips.{range_by, range_of, read_range, first_of, is_nonempty, Ascending, IsSkipped}
 use Rattle.obj_rows.specs.declared.skips.Range.{Range}
-use Rattle.obj_rows.proofs.SkipRows.{range_here, past_in, skipped}
+use Rattle.obj_rows.proofs.SkipRows.{range_rows, past_in, skipped}
 
-abbrev pub first_of : images.Range → ℕ
-first_of r = r.first
+abbrev pub range_first : images.Range → ℕ
+range_first r = r.first
 
 abbrev tail : List images.Range → List images.Range
 tail [] = []
@@ -39,46 +38,19 @@ ordered_tail : (x : images.Range) (rs : List images.Range) → Ordered (x ∷ rs
 ordered_tail x [] h = refl
 ordered_tail x (y ∷ rs) h = and_right (leb x.past y.first) _ h
 
-firsts_rise : (rs : List images.Range) → Nonempty rs → Ordered rs → Rising self (map first_of rs)
-firsts_rise [] p q = tt
-firsts_rise (x ∷ []) p q = (tt, tt)
-firsts_rise (x ∷ y ∷ rs) p q =
+ranges_rise : (rs : List images.Range) → Nonempty rs → Ordered rs → Rising self (map range_first rs)
+ranges_rise [] p q = tt
+ranges_rise (x ∷ []) p q = (tt, tt)
+ranges_rise (x ∷ y ∷ rs) p q =
     let some : x.first < x.past = ltb-true _ _ (and_left _ _ p) in
     let after : x.past ≤ y.first = leb-true _ _ (and_left _ _ q) in
-    (omega arith, firsts_rise (y ∷ rs) (and_right (is_nonempty x) _ p) (and_right (leb x.past y.first) _ q))
-
--- ---- halving
-
-module _ (s : List ℕ) (asc : Ascending s) where
-  count_is : length (firsts s) ≡ length s / 2
-  count_is = length-map (rows 2 skip_row s) first_of ∙ sym (rows_count 2 (omega arith) skip_row s asc.whole)
-
-  first_at : (i : ℕ) → i < length s / 2 → get_or (firsts s) i 0 ≡ get_or s (i * 2) 0
-  first_at i h = getD_mapped first_of 0 (rows 2 skip_row s) i _ _ (rows_drop 2 (omega arith) skip_row s i ∙ range_here s (i * 2) (omega arith))
-
-  take_is : take (length s / 2) (firsts s) ≡ firsts s
-  take_is = take_all (length s / 2) (firsts s) (omega (arith, count_is))
-
-  rise_part : Rising self (take (length s / 2) (firsts s))
-  rise_part = rw take_is (firsts_rise (rows 2 skip_row s) asc.nonempty asc.order)
-
-  room : length s / 2 ≤ length (firsts s)
-  room = omega (arith, count_is)
-
-  pub starts_up : (a lo hi mid : ℕ) → Halved (firsts s) (length s / 2) (a + 1) lo hi → mid < hi → get_or s (mid * 2) 0 ≤ a → Halved (firsts s) (length s / 2) (a + 1) (mid + 1) hi
-  starts_up a lo hi mid v h t = halved_up (firsts s) (length s / 2) room rise_part (a + 1) lo hi mid v h (rw (first_at mid (omega (arith, v.end))) (omega arith))
-
-  pub starts_down : (a lo hi mid : ℕ) → Halved (firsts s) (length s / 2) (a + 1) lo hi → lo ≤ mid → mid < hi → a < get_or s (mid * 2) 0 → Halved (firsts s) (length s / 2) (a + 1) lo mid
-  starts_down a lo hi mid v h k t = halved_down (firsts s) (length s / 2) room rise_part (a + 1) lo hi mid v h k (rw (first_at mid (omega (arith, v.end))) (omega arith))
-
-  pub starts_end : (a lo hi : ℕ) → Halved (firsts s) (length s / 2) (a + 1) lo hi → hi ≤ lo → lo ≡ rank self (a + 1) (firsts s)
-  starts_end a lo hi v h = rw take_is at (halved_end (firsts s) (length s / 2) room rise_part (a + 1) lo hi v h)
+    (omega arith, ranges_rise (y ∷ rs) (and_right (is_nonempty x) _ p) (and_right (leb x.past y.first) _ q))
 
 -- ---- the range that holds the address
 
 -- how many begin at a or below it
 abbrev begun : ℕ → List images.Range → ℕ
-begun a rs = rank self (a + 1) (map first_of rs)
+begun a rs = rank self (a + 1) (map range_first rs)
 
 module _ (a : ℕ) where
   -- a range behind a does not hold it, nor does one that ends by a
@@ -136,21 +108,40 @@ module _ (a : ℕ) where
 
 -- ---- what skip_range returns
 
-module _ (s : List ℕ) (asc : Ascending s) (a n : ℕ) (is : n ≡ rank self (a + 1) (firsts s)) where
-  pub none_begun : n ≡ 0 → IsSkipped s a a
-  none_begun z = skipped s a a (sym (above_all a (rows 2 skip_row s) asc.nonempty asc.order (sym is ∙ z)))
+firsts_are : (c : List (List ℕ)) → map range_first (map read_range c) ≡ map first_of c
+firsts_are [] = refl
+firsts_are (x ∷ c) = ap (λ (l : List ℕ). first_of x ∷ l) (firsts_are c)
 
-  module _ (some : n ≡ 0 → ⊥) (x : Range) (tail : List images.Range) (row : rows 2 skip_row (drop (n * 2 - 2) s) ≡ range_of x ∷ tail) where
-    says : past_in a (rows 2 skip_row s) ≡ if (in_range a (range_of x)) x.past a
-    says =
-        let e : rank self (a + 1) (firsts s) ≡ suc (n - 1) = omega (arith, is) in
-        let at : (n - 1) * 2 ≡ n * 2 - 2 = omega arith in
-        last_begun a (rows 2 skip_row s) asc.nonempty asc.order (n - 1) (range_of x) tail e
-        (rows_drop 2 (omega arith) skip_row s (n - 1) ∙ ap (λ (i : ℕ). rows 2 skip_row (drop i s)) at ∙ row)
+module _ (s : List ℕ) (asc : Ascending s) (c : List (List ℕ)) (cut : c ≡ first_chunks 2 (length s / 2) s) where
+  ranges_are : rows 2 skip_row s ≡ map read_range c
+  ranges_are = range_rows s asc.whole c cut
 
-    module _ (b : Bool) (test : b ≡ in_range a (range_of x)) where
-      pub last_holds : b ≡ true → IsSkipped s a x.past
-      last_holds h = skipped s a x.past (sym (says ∙ if_true (sym test ∙ h) _ _))
+  nonempty : Nonempty (map read_range c)
+  nonempty = rw (← ranges_are) asc.nonempty
 
-      pub last_fails : b ≡ false → IsSkipped s a a
-      last_fails h = skipped s a a (sym (says ∙ if_false (sym test ∙ h) _ _))
+  ordered : Ordered (map read_range c)
+  ordered = rw (← ranges_are) asc.order
+
+  pub firsts_rise : Rising self (map first_of c)
+  firsts_rise = rw (← firsts_are c) (ranges_rise (map read_range c) nonempty ordered)
+
+  module _ (a n : ℕ) (is : n ≡ rank self (a + 1) (map first_of c)) where
+    begun_is : begun a (map read_range c) ≡ n
+    begun_is = rw (firsts_are c) (sym is)
+
+    pub none_begun : n ≡ 0 → IsSkipped s a a
+    none_begun z = skipped s a a (rw ranges_are (sym (above_all a (map read_range c) nonempty ordered (begun_is ∙ z))))
+
+    module _ (k : ℕ) (one : n ≡ suc k) (room : k < length c) (x : Range) (here : x ≡ range_by (get_or c k [])) where
+      says : past_in a (rows 2 skip_row s) ≡ if (in_range a (range_of x)) x.past a
+      says =
+          let row : drop k (map read_range c) ≡ range_of x ∷ drop (suc k) (map read_range c) =
+          drop-cons (map read_range c) k (read_range []) (rw length-map room) ∙ ap (λ (r : images.Range). r ∷ drop (suc k) (map read_range c)) (get_or-map read_range c k [] ∙ ap range_of (sym here)) in
+          ap (past_in a) ranges_are ∙ last_begun a (map read_range c) nonempty ordered k (range_of x) _ (begun_is ∙ one) row
+
+      module _ (b : Bool) (test : b ≡ in_range a (range_of x)) where
+        pub last_holds : b ≡ true → IsSkipped s a x.past
+        last_holds h = skipped s a x.past (sym (says ∙ if_true (sym test ∙ h) _ _))
+
+        pub last_fails : b ≡ false → IsSkipped s a a
+        last_fails h = skipped s a a (sym (says ∙ if_false (sym test ∙ h) _ _))

@@ -1,11 +1,12 @@
 -- Skip ranges: what each test and each loop over them has found at its returns. Assumes nothing.
-use Prim.Native.Nat.{ℕ, ◌+◌, ◌/◌, ◌%◌, ◌≤◌, ◌<◌}
+use Prim.Native.Nat.{ℕ, ◌/◌, ◌%◌, ◌<◌}
 use mathlib.Core.Path.{◌≡◌, refl, sym, ap, ◌∙◌}
 use mathlib.Core.Bool.{Bool, true, false, ◌&&◌, not}
-use mathlib.Core.List.{List, [], ◌∷◌}
+use mathlib.Core.List.{List, [], ◌∷◌, map}
 use native.Mathlib.Omega.{arith}
+use Rattle.std.specs.Simd.{first_chunks}
 use lib.Dec.{leb, eqb}
-use lib.ListN.{length, drop, get_or}
+use lib.ListN.{length, length-map}
 use borrow.Author.Tests.{eq-eqb, ne_eqb, ltb-true}
 use Rattle.rules.specs.Choice.{if, any}
 use Rattle.rules.specs.Image as images
@@ -15,13 +16,8 @@ use Rattle.rules.specs.Check as rules
 use Rattle.rules.specs.Map.{Capacity, past_range, skip_range}
 use Rattle.rules.proofs.Tests.{and_right}
 use Rattle.obj_image.specs.Lent.{Lent, rows, skip_row, given, image, seen}
-use Rattle.obj_rows.specs.Skips.{range_of, IsSkipped}
-use Rattle.obj_image.proofs.Rows.{row_here, rows_count, not_whole, middle_false}
-
--- a range's row, by its numbers
-pub range_here : (l : List ℕ) (at : ℕ) → at + 2 ≤ length l → rows 2 skip_row (drop at l) ≡ range_of (record { first = get_or l at 0; past = get_or l (at + 1) 0 }) ∷ rows 2 skip_row (drop (at + 2) l)
-unfolding if
-range_here l at h = row_here l at 1 skip_row h
+use Rattle.obj_rows.specs.Skips.{read_range, IsSkipped}
+use Rattle.obj_image.proofs.Rows.{rows_chunks, not_whole, middle_false}
 
 -- ---- the range that holds an address
 
@@ -61,9 +57,14 @@ pub not_a_skip : (im : images.Image) (c : List ℕ) → length c < 2 → rules.i
 unfolding if
 not_a_skip im c h = rw (ne_eqb (length c) 2 (omega arith)) refl
 
+-- whole rows, as std cuts them
+pub range_rows : (s : List ℕ) → length s % 2 ≡ 0 → (c : List (List ℕ)) → c ≡ first_chunks 2 (length s / 2) s → rows 2 skip_row s ≡ map read_range c
+unfolding if
+range_rows s whole c cut = rows_chunks 2 (omega arith) skip_row read_range (λ x h. rw h refl) s whole ∙ ap (map read_range) (sym cut)
+
 module _ (im : images.Image) (s : List ℕ) where
-  pub skips_are : (b d : Bool) → length s % 2 ≡ 0 → b ≡ rules.all (rules.is_skip im) (rows 2 skip_row s) → d ≡ rules.chained (rules.comes_before (seen [])) (rows 2 skip_row s) → (leb (length s / 2) 64 && b && d) ≡ rules.are_skips im (rows 2 skip_row s)
-  skips_are b d h e g = rw (rows_count 2 (omega arith) skip_row s h, e, g) refl
+  pub skips_are : length s % 2 ≡ 0 → (c : List (List ℕ)) → c ≡ first_chunks 2 (length s / 2) s → (b d : Bool) → b ≡ rules.all (rules.is_skip im) (map read_range c) → d ≡ rules.chained (rules.comes_before (seen [])) (map read_range c) → (leb (length c) 64 && b && d) ≡ rules.are_skips im (rows 2 skip_row s)
+  skips_are whole c cut b d e g = rw (range_rows s whole c cut, length-map, e, g) refl
 
   pub skips_broken : (length s % 2 ≡ 0 → ⊥) → false ≡ rules.are_skips im (rows 2 skip_row s)
   skips_broken h =

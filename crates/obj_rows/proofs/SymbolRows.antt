@@ -6,22 +6,27 @@ use mathlib.Core.List.{List, [], ◌∷◌, map}
 use native.Mathlib.Omega.{arith}
 use lib.Dec.{leb, eqb}
 use borrow.Author.Tests.{lt-leb}
-use lib.ListN.{length, drop, get_or}
-use Rattle.rules.specs.Choice.{if, if_true, if_false}
+use lib.ListN.{length, drop, get_or, length-map}
+use Rattle.std.specs.Simd.{first_chunks}
+use Rattle.rules.specs.Choice.{if}
 use Rattle.rules.specs.Image as images
 use Rattle.rules.specs.Given.{SymbolRow, image_of}
 use Rattle.rules.specs.Given as givens
 use Rattle.rules.specs.Check as rules
 use Rattle.rules.specs.JumpTable.{known_size}
 use Rattle.obj_image.specs.Lent.{Lent, rows, symbol_row, given, image}
-use Rattle.obj_rows.specs.Symbols.{symbol_of, symbol_holds}
-use Rattle.obj_image.proofs.Halves.{half_function, half_object}
-use Rattle.obj_image.proofs.Rows.{row_here, rows_count, not_whole, middle_false}
+use Rattle.obj_rows.specs.Symbols.{symbol_of, read_symbol}
+use Rattle.obj_image.proofs.Rows.{row_here, rows_chunks, not_whole, middle_false}
 
 -- a symbol's row, by its numbers
 pub symbol_here : (l : List ℕ) (at : ℕ) → at + 3 ≤ length l → rows 3 symbol_row (drop at l) ≡ symbol_of (record { address = get_or l at 0; size = get_or l (at + 1) 0; known = get_or l (at + 2) 0 }) ∷ rows 3 symbol_row (drop (at + 3) l)
 unfolding if
 symbol_here l at h = row_here l at 2 symbol_row h
+
+-- whole rows, as std cuts them
+pub symbol_rows : (s : List ℕ) → length s % 3 ≡ 0 → (c : List (List ℕ)) → c ≡ first_chunks 3 (length s / 3) s → rows 3 symbol_row s ≡ map read_symbol c
+unfolding if
+symbol_rows s whole c cut = rows_chunks 3 (omega arith) symbol_row read_symbol (λ x h. rw h refl) s whole ∙ ap (map read_symbol) (sym cut)
 
 -- ---- the known size of an object symbol
 
@@ -34,25 +39,13 @@ sized s a r h l e = h ∙ sym (ap (λ (t : List ℕ). size_in a (rows 3 symbol_r
 
 -- ---- the tests
 
-module _ (im : images.Image) (x : SymbolRow) (f b : Bool) where
-  pub holds_function : f ≡ true → b ≡ rules.is_function_symbol im x → b ≡ symbol_holds im f x
-  holds_function h e = e ∙ sym (if_true h _ _)
+module _ (im : images.Image) (p : SymbolRow → Bool) (s : List ℕ) where
+  pub symbols_are : length s % 3 ≡ 0 → (c : List (List ℕ)) → c ≡ first_chunks 3 (length s / 3) s → (b d : Bool) → b ≡ rules.all p (map read_symbol c) → d ≡ rules.chained (rules.is_below im) (map read_symbol c) → (leb (length c) 1024 && b && d) ≡ rules.are_symbols im p (rows 3 symbol_row s)
+  symbols_are whole c cut b d e g = rw (symbol_rows s whole c cut, length-map, e, g) refl
 
-  pub holds_object : f ≡ false → b ≡ rules.is_object_symbol im x → b ≡ symbol_holds im f x
-  holds_object h e = e ∙ sym (if_false h _ _)
-
-pub not_a_symbol : (im : images.Image) (f : Bool) (c : List ℕ) → length c < 3 → symbol_holds im f (symbol_row c) ≡ false
-unfolding if
-not_a_symbol im true c h = half_function im c h
-not_a_symbol im false c h = half_object im c h
-
-module _ (im : images.Image) (f : Bool) (s : List ℕ) where
-  pub symbols_are : (b d : Bool) → length s % 3 ≡ 0 → b ≡ rules.all (symbol_holds im f) (rows 3 symbol_row s) → d ≡ rules.chained (rules.is_below im) (rows 3 symbol_row s) → (leb (length s / 3) 1024 && b && d) ≡ rules.are_symbols im (symbol_holds im f) (rows 3 symbol_row s)
-  symbols_are b d h e g = rw (rows_count 3 (omega arith) symbol_row s h, e, g) refl
-
-  pub symbols_broken : (length s % 3 ≡ 0 → ⊥) → false ≡ rules.are_symbols im (symbol_holds im f) (rows 3 symbol_row s)
-  symbols_broken h =
-      let k : false ≡ rules.all (symbol_holds im f) (rows 3 symbol_row s) = not_whole 3 (omega arith) symbol_row (symbol_holds im f) (not_a_symbol im f) s h in
+  pub symbols_broken : ((c : List ℕ) → length c < 3 → p (symbol_row c) ≡ false) → (length s % 3 ≡ 0 → ⊥) → false ≡ rules.are_symbols im p (rows 3 symbol_row s)
+  symbols_broken short h =
+      let k : false ≡ rules.all p (rows 3 symbol_row s) = not_whole 3 (omega arith) symbol_row p short s h in
       rw (← k) (sym (middle_false (leb (length (rows 3 symbol_row s)) 1024) _))
 
 -- ---- the entry point

@@ -1,19 +1,29 @@
 -- Symbols by value, and what the lookups among them ask for.
-use Rattle.std.specs.Prelude.{ℕ, ◌%◌, ◌≡◌, Bool, List, map, length}
-use Rattle.rules.specs.Choice.{if}
+use Rattle.std.specs.Prelude.{ℕ, ◌%◌, ◌≡◌, List, map, get_or, length}
 use Rattle.rules.specs.Ordered.{self, Rising}
-use Rattle.rules.specs.Image.{Image, locate}
+use Rattle.rules.specs.Image.{locate}
 use Rattle.rules.specs.Given.{SymbolRow}
-use Rattle.rules.specs.Check.{is_function_symbol, is_object_symbol}
 use Rattle.obj_image.specs.Lent.{rows, symbol_row, seen}
 use Rattle.obj_rows.specs.declared.symbols.Symbol.{Symbol}
+
+-- a symbol by value, from the numbers of its row
+abbrev pub symbol_by : List ℕ → Symbol
+symbol_by c = record { address = get_or c 0 0; size = get_or c 1 0; known = get_or c 2 0 }
 
 abbrev pub symbol_of : Symbol → SymbolRow
 symbol_of s = record { address = s.address; size = s.size; known = s.known }
 
--- what is asked of a function symbol, or of an object symbol
-abbrev pub symbol_holds : Image → Bool → SymbolRow → Bool
-symbol_holds im f s = if f (is_function_symbol im s) (is_object_symbol im s)
+-- three numbers, as a row
+abbrev pub read_symbol : List ℕ → SymbolRow
+read_symbol c = symbol_of (symbol_by c)
+
+-- the address of a row
+abbrev pub address_of : List ℕ → ℕ
+address_of c = (read_symbol c).address
+
+-- the key of a row, by the sections alone
+abbrev pub key_of : List ℕ → List ℕ → ℕ
+key_of s c = locate (seen s) (read_symbol c).address
 
 -- the addresses of the rows
 abbrev pub addresses : List ℕ → List ℕ

@@ -1,9 +1,9 @@
 // What each code word does, as rows: what check 2 asks of one.
-ghost use Rattle.std.specs.Prelude.{◌≡◌, ◌∷◌, ◌+◌, ◌%◌, ◌≤◌, length, drop};
+ghost use Rattle.std.specs.Prelude.{◌≡◌, map};
 ghost use Rattle.rules.specs.Check as rules;
-ghost use Rattle.obj_image.specs.Lent.{rows, outcome_row, branch_row, seen};
+ghost use Rattle.obj_image.specs.Lent.{branch_row, seen};
 ghost use Rattle.obj_image.specs.Sections.{Few};
-ghost use Rattle.obj_rows.specs.Outcomes.{row_of};
+ghost use Rattle.obj_rows.specs.Outcomes.{row_by, row_of, read_outcome, Decodes, number_of};
 
 use obj_image::sections::locate;
 
@@ -18,19 +18,53 @@ pub struct Row {
     pub fourth: u32,
 }
 
-// The row that begins at an index: the next one of the rows from there.
-pub fn row_at(outcomes: &[u32], at: usize) -> Row
-    requires { at + 6 ≤ length outcomes.now }
-    ensures { rows 6 outcome_row (drop at outcomes.now) ≡ row_of result ∷ rows 6 outcome_row
-        (drop (at + 6) outcomes.now) }
-{
-    Row {
-        kind: outcomes[at],
-        mark: outcomes[at + 1],
-        first: outcomes[at + 2],
-        second: outcomes[at + 3],
-        third: outcomes[at + 4],
-        fourth: outcomes[at + 5],
+impl From<&[u32; 6]> for Row {
+    ghost from_gives = { λ numbers row. row ≡ row_by numbers.now };
+
+    fn from(numbers: &[u32; 6]) -> Row {
+        Row {
+            kind: numbers[0],
+            mark: numbers[1],
+            first: numbers[2],
+            second: numbers[3],
+            third: numbers[4],
+            fourth: numbers[5],
+        }
+    }
+}
+
+// The kinds of outcome.
+#[derive(Clone, Copy, Debug, PartialEq, Eq)]
+pub enum Kind {
+    GoOn,
+    Illegal,
+    Unknown,
+    Return,
+    Jump,
+    JumpTable,
+    Branches,
+}
+
+// A number that is no kind of outcome.
+#[derive(Clone, Copy, Debug, PartialEq, Eq)]
+pub struct UnknownKind(pub u32);
+
+impl TryFrom<u32> for Kind {
+    type Error = UnknownKind;
+
+    ghost try_from_gives = { Decodes };
+
+    fn try_from(number: u32) -> Result<Kind, UnknownKind> {
+        match number {
+            0 => Ok(Kind::GoOn),
+            1 => Ok(Kind::Illegal),
+            2 => Ok(Kind::Unknown),
+            3 => Ok(Kind::Return),
+            4 => Ok(Kind::Jump),
+            5 => Ok(Kind::JumpTable),
+            6 => Ok(Kind::Branches),
+            _ => Err(UnknownKind(number)),
+        }
     }
 }
 
@@ -47,61 +81,50 @@ fn is_branch_row(sections: &[u32], way: u32, a: u32) -> bool
     requires { Few sections.now }
     ensures { result ≡ rules.all (rules.is_branch_row (seen sections.now)) (branch_row way a) }
 {
-    if way == 0 {
-        return a == 0;
+    match way % 4 {
+        0 => way == 0 && a == 0,
+        3 => (way / 4 <= 1) & (a == 0),
+        _ => (way / 4 <= 1) & is_inside(sections, a),
     }
-    let to = way % 4;
-    if to == 0 {
-        return false;
-    }
-    if to == 3 {
-        return (way / 4 <= 1) & (a == 0);
-    }
-    (way / 4 <= 1) & is_inside(sections, a)
 }
 
 // What a row has beside its kind and mark: a target, a table with a size of at most 65,536, a list of 0 to 2 branches, or nothing.
-fn fits_kind(sections: &[u32], r: Row) -> bool
-    requires { Few sections.now × r.kind ≤ 6 }
+fn fits_kind(sections: &[u32], kind: Kind, r: Row) -> bool
+    requires few { Few sections.now }
+    requires kind { number_of kind ≡ r.kind }
     ensures { result ≡ rules.fits_kind (seen sections.now) (row_of r) }
 {
     let none = (r.third == 0) & (r.fourth == 0);
-    // the kinds that most words have
-    if r.kind <= 3 {
-        return (r.first == 0) & (r.second == 0) & none;
+    match kind {
+        // the kinds that most words have
+        Kind::GoOn | Kind::Illegal | Kind::Unknown | Kind::Return => {
+            (r.first == 0) & (r.second == 0) & none
+        },
+        Kind::Jump => is_inside(sections, r.first) & (r.second == 0) & none,
+        Kind::JumpTable => is_inside(sections, r.first) & (r.second <= 65536) & none,
+        Kind::Branches => {
+            is_branch_row(sections, r.first, r.second) & is_branch_row(sections, r.third, r.fourth)
+        },
     }
-    if r.kind == 6 {
-        return is_branch_row(sections, r.first, r.second)
-            & is_branch_row(sections, r.third, r.fourth);
-    }
-    if r.kind == 5 {
-        return is_inside(sections, r.first) & (r.second <= 65536) & none;
-    }
-    is_inside(sections, r.first) & (r.second == 0) & none
 }
 
 fn is_outcome(sections: &[u32], r: Row) -> bool
     requires { Few sections.now }
     ensures { result ≡ rules.is_outcome (seen sections.now) (row_of r) }
 {
-    if r.kind <= 6 {
-        return (r.mark <= 1) & fits_kind(sections, r);
+    match Kind::try_from(r.kind) {
+        Ok(kind) => (r.mark <= 1) & fits_kind(sections, kind, r),
+        Err(_) => false,
     }
-    false
 }
 
-pub fn are_outcomes(sections: &[u32], outcomes: &[u32]) -> bool
-    requires { Few sections.now × length outcomes.now % 6 ≡ 0 }
+pub fn are_outcomes(sections: &[u32], outcomes: &[[u32; 6]]) -> bool
+    requires { Few sections.now }
     ensures { result ≡ rules.all (rules.is_outcome (seen sections.now))
-        (rows 6 outcome_row outcomes.now) }
+        (map read_outcome outcomes.now) }
 {
-    let mut at: usize = 0;
-    while at < outcomes.len() {
-        if is_outcome(sections, row_at(outcomes, at)) {
-            at += 6;
-        } else {
-            return false;
-        }
-    }
-    true
+    outcomes
+        .iter()
+        .map(Row::from)
+        .all(|r| is_outcome(sections, r))
 }

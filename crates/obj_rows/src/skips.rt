@@ -1,10 +1,10 @@
 // The skip ranges as rows: their order, and the range that holds an address.
-ghost use Rattle.std.specs.Prelude.{◌≡◌, [], ◌∷◌, ◌+◌, ◌*◌, ◌%◌, ◌≤◌, length, drop};
-ghost use Rattle.rules.specs.Ordered.{self, rank};
+ghost use Rattle.std.specs.Prelude.{◌≡◌, [], ◌+◌, ◌≤◌, length, map};
+ghost use Rattle.rules.specs.Ordered.{self as own, rank, Rising};
 ghost use Rattle.rules.specs.Check as rules;
 ghost use Rattle.rules.specs.Image as images;
-ghost use Rattle.obj_image.specs.Lent.{Lent, rows, skip_row, image, seen};
-ghost use Rattle.obj_rows.specs.Skips.{range_of, Ascending, firsts, IsSkipped};
+ghost use Rattle.obj_image.specs.Lent.{Lent, image, seen};
+ghost use Rattle.obj_rows.specs.Skips.{range_by, range_of, read_range, first_of, Ascending, IsSkipped};
 
 // A range of addresses, from its first to just below the second.
 #[derive(Clone, Copy)]
@@ -13,15 +13,12 @@ pub struct Range {
     pub past: u32,
 }
 
-// The range whose row begins at an index: the next one of the rows from there.
-pub fn range_at(skips: &[u32], at: usize) -> Range
-    requires { at + 2 ≤ length skips.now }
-    ensures { rows 2 skip_row (drop at skips.now) ≡ range_of result ∷ rows 2 skip_row
-        (drop (at + 2) skips.now) }
-{
-    Range {
-        first: skips[at],
-        past: skips[at + 1],
+impl From<&[u32; 2]> for Range {
+    ghost from_gives = { λ row range. range ≡ range_by row.now };
+
+    fn from(row: &[u32; 2]) -> Range {
+        let [first, past] = *row;
+        Range { first, past }
     }
 }
 
@@ -32,21 +29,10 @@ fn comes_before(r: Range, range: Range) -> bool
 }
 
 // Ascending; they may touch but not overlap.
-pub fn skips_ascend(skips: &[u32]) -> bool
-    requires { length skips.now % 2 ≡ 0 }
-    ensures { result ≡ rules.chained (rules.comes_before (seen [])) (rows 2 skip_row skips.now) }
+pub fn skips_ascend(skips: &[[u32; 2]]) -> bool
+    ensures { result ≡ rules.chained (rules.comes_before (seen [])) (map read_range skips.now) }
 {
-    let mut at: usize = 0;
-    let mut next: usize = 2;
-    while next < skips.len() {
-        if comes_before(range_at(skips, at), range_at(skips, next)) {
-            at = next;
-            next += 2;
-        } else {
-            return false;
-        }
-    }
-    true
+    skips.is_sorted_by(|r, range| comes_before(Range::from(r), Range::from(range)))
 }
 
 fn in_range(a: u32, r: Range) -> bool
@@ -55,22 +41,13 @@ fn in_range(a: u32, r: Range) -> bool
     (r.first <= a) & (a < r.past)
 }
 
-// How many skip ranges begin at an address or below it, by halving.
-fn starts_by(skips: &[u32], a: u32) -> usize
-    requires { Ascending skips.now }
-    ensures { (result ≡ rank self (a + 1) (firsts skips.now)) × (result * 2 ≤ length skips.now) }
+// How many skip ranges begin at an address or below it.
+fn starts_by(skips: &[[u32; 2]], a: u32) -> usize
+    requires { Rising own (map first_of skips.now) }
+    ensures rank { result ≡ rank own (a + 1) (map first_of skips.now) }
+    ensures bound { result ≤ length skips.now }
 {
-    let mut lo: usize = 0;
-    let mut hi = skips.len() / 2;
-    while lo < hi {
-        let mid = lo + (hi - lo) / 2;
-        if skips[mid * 2] <= a {
-            lo = mid + 1;
-        } else {
-            hi = mid;
-        }
-    }
-    lo
+    skips.partition_point(|row| Range::from(row).first <= a)
 }
 
 // Over one skip range: where the one that holds a ends; a where none does. Ranges ascend, so that only the last that begins at a or
@@ -79,15 +56,12 @@ pub fn skip_range(skips: &[u32], a: u32) -> u32
     requires { Ascending skips.now }
     ensures { IsSkipped skips.now a result }
 {
-    let n = starts_by(skips, a);
-    if n == 0 {
+    let (skips, _) = skips.as_chunks::<2>();
+    let Some(last) = starts_by(skips, a).checked_sub(1) else {
         return a;
-    }
-    let r = range_at(skips, n * 2 - 2);
-    if in_range(a, r) {
-        return r.past;
-    }
-    a
+    };
+    let r = Range::from(&skips[last]);
+    if in_range(a, r) { r.past } else { a }
 }
 
 // Whether an address lies in a skip range: one that does is not where its range ends.

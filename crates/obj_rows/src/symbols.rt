@@ -1,11 +1,11 @@
 // Function and object symbols as rows: their order, and the symbol at or around an address.
-ghost use Rattle.std.specs.Prelude.{◌≡◌, [], ◌∷◌, ◌+◌, ◌*◌, ◌%◌, ◌≤◌, length, drop};
-ghost use Rattle.rules.specs.Ordered.{self, rank, Rising};
+ghost use Rattle.std.specs.Prelude.{◌≡◌, [], ◌∷◌, ◌+◌, ◌≤◌, length, drop, map};
+ghost use Rattle.rules.specs.Ordered.{self as own, rank, Rising};
 ghost use Rattle.rules.specs.Check as rules;
 ghost use Rattle.rules.specs.JumpTable.{known_size};
 ghost use Rattle.obj_image.specs.Lent.{Lent, rows, symbol_row, image, seen};
 ghost use Rattle.obj_image.specs.Sections.{Few};
-ghost use Rattle.obj_rows.specs.Symbols.{symbol_of, addresses, keys, KeysAscend};
+ghost use Rattle.obj_rows.specs.Symbols.{symbol_by, symbol_of, read_symbol, address_of, key_of, KeysAscend};
 
 use obj_image::sections::locate;
 
@@ -15,6 +15,19 @@ pub struct Symbol {
     pub address: u32,
     pub size: u32,
     pub known: u32,
+}
+
+impl From<&[u32; 3]> for Symbol {
+    ghost from_gives = { λ row symbol. symbol ≡ symbol_by row.now };
+
+    fn from(row: &[u32; 3]) -> Symbol {
+        let [address, size, known] = *row;
+        Symbol {
+            address,
+            size,
+            known,
+        }
+    }
 }
 
 // The symbol whose row begins at an index: the next one of the rows from there.
@@ -34,7 +47,7 @@ pub fn symbol_at(symbols: &[u32], at: usize) -> Symbol
 pub fn is_symbol(symbol: Symbol) -> bool
     ensures { result ≡ rules.is_symbol (seen []) (symbol_of symbol) }
 {
-    (symbol.address % 4 == 0) & (symbol.size <= 262144) & (symbol.known <= 1)
+    symbol.address % 4 == 0 && symbol.size <= 262144 && symbol.known <= 1
 }
 
 fn is_below(sections: &[u32], symbol: Symbol, other: Symbol) -> bool
@@ -45,42 +58,22 @@ fn is_below(sections: &[u32], symbol: Symbol, other: Symbol) -> bool
 }
 
 // Addresses ascend strictly, section first.
-pub fn symbols_ascend(sections: &[u32], symbols: &[u32]) -> bool
-    requires { Few sections.now × length symbols.now % 3 ≡ 0 }
+pub fn symbols_ascend(sections: &[u32], symbols: &[[u32; 3]]) -> bool
+    requires { Few sections.now }
     ensures { result ≡ rules.chained (rules.is_below (seen sections.now))
-        (rows 3 symbol_row symbols.now) }
+        (map read_symbol symbols.now) }
 {
-    let mut at: usize = 0;
-    let mut next: usize = 3;
-    while next < symbols.len() {
-        if is_below(sections, symbol_at(symbols, at), symbol_at(symbols, next)) {
-            at = next;
-            next += 3;
-        } else {
-            return false;
-        }
-    }
-    true
+    symbols.is_sorted_by(|row, next| is_below(sections, Symbol::from(row), Symbol::from(next)))
 }
 
-// How many object symbols have keys below a key, by halving.
-fn keys_below(sections: &[u32], objects: &[u32], key: u64) -> usize
+// How many object symbols have keys below a key.
+fn keys_below(sections: &[u32], objects: &[[u32; 3]], key: u64) -> usize
     requires few { Few sections.now }
-    requires objects { KeysAscend sections.now objects.now }
-    ensures { (result ≡ rank self key (keys sections.now objects.now)) ×
-        (result * 3 ≤ length objects.now) }
+    requires rise { Rising own (map (key_of sections.now) objects.now) }
+    ensures rank { result ≡ rank own key (map (key_of sections.now) objects.now) }
+    ensures bound { result ≤ length objects.now }
 {
-    let mut lo: usize = 0;
-    let mut hi = objects.len() / 3;
-    while lo < hi {
-        let mid = lo + (hi - lo) / 2;
-        if locate(sections, objects[mid * 3]) < key {
-            lo = mid + 1;
-        } else {
-            hi = mid;
-        }
-    }
-    lo
+    objects.partition_point(|row| locate(sections, Symbol::from(row).address) < key)
 }
 
 // The known size of the object symbol at an address; 0 for none. Symbols ascend by their keys, section first, so that only the first
@@ -90,30 +83,24 @@ pub fn known_size(sections: &[u32], objects: &[u32], a: u32) -> u32
     requires objects { KeysAscend sections.now objects.now }
     ensures { (l : Lent) → l.objects ≡ objects.now → result ≡ known_size a (image l).objects }
 {
-    let at = keys_below(sections, objects, locate(sections, a)) * 3;
-    if at < objects.len() {
-        let s = symbol_at(objects, at);
-        if (s.address == a) & (s.known == 1) {
-            return s.size;
-        }
+    let (objects, _) = objects.as_chunks::<3>();
+    let at = keys_below(sections, objects, locate(sections, a));
+    let Some(row) = objects.get(at) else {
+        return 0;
+    };
+    let s = Symbol::from(row);
+    if (s.address == a) & (s.known == 1) {
+        s.size
+    } else {
+        0
     }
-    0
 }
 
-// How many function symbols lie below an address, by halving.
-pub fn count_below(functions: &[u32], a: u32) -> usize
-    requires { (length functions.now % 3 ≡ 0) × Rising self (addresses functions.now) }
-    ensures { (result ≡ rank self a (addresses functions.now)) × (result * 3 ≤ length functions.now) }
+// How many function symbols lie below an address.
+pub fn count_below(functions: &[[u32; 3]], a: u32) -> usize
+    requires { Rising own (map address_of functions.now) }
+    ensures rank { result ≡ rank own a (map address_of functions.now) }
+    ensures bound { result ≤ length functions.now }
 {
-    let mut lo: usize = 0;
-    let mut hi = functions.len() / 3;
-    while lo < hi {
-        let mid = lo + (hi - lo) / 2;
-        if functions[mid * 3] < a {
-            lo = mid + 1;
-        } else {
-            hi = mid;
-        }
-    }
-    lo
+    functions.partition_point(|row| Symbol::from(row).address < a)
 }

@@ -1,17 +1,9 @@
-use mathlib.Core.Path.{refl}
-use native.Mathlib.Omega.{arith}
-use Rattle.obj.proofs.Part.{part_here, part_later, part_nowhere, part_is}
-use borrow.Author.Rules.{rules}
+use mathlib.Core.Path.{sym, ap, ◌∙◌}
+use Rattle.obj.specs.Sections.{part_in}
+use Rattle.obj_image.proofs.Chains.{section_rows}
+use Rattle.obj.proofs.Part.{part_is}
 use Rattle.obj.proofs.sections.section_of.Goals as goal
 
-pub loop-at-init : goal.loop-at-init
-loop-at-init c = (omega arith, omega arith, omega arith, rw c.one_less-left.ensures refl)
-
-pub returns-then-left-eq0 : goal.returns-then-left-eq0
-returns-then-left-eq0 c = part_is _ _ _ _ refl (search (rules, part_here))
-
-pub loop-at-preserved : goal.loop-at-preserved
-loop-at-preserved c = (omega arith, omega arith, omega arith, search (rules, part_later))
-
+-- `obj::sections::section_of` is the section of an address in `rules`. Assumes nothing.
 pub returns : goal.returns
-returns c = part_is _ _ _ _ refl (search (rules, part_nowhere))
+returns c = part_is c.args.sections.now c.args.key c.index_of.result c.part_at.result c.index_of.ensures (c.part_at.ensures ∙ ap (part_in c.index_of.result 0) (sym (section_rows c.args.sections.now c.requires.whole c.as_chunks.result.0.now c.as_chunks.ensures.front)))

@@ -1,17 +1,15 @@
-use mathlib.Core.Path.{refl}
-use native.Mathlib.Omega.{arith}
-use Rattle.obj_image.proofs.Loops.{all_fails, all_on, all_ends}
+use mathlib.Core.Path.{◌∙◌}
 use borrow.Author.Rules.{rules}
+use Rattle.std.proofs.lemmas.Iterator.{YieldsList-from_slice, YieldsList-from_map}
+use Rattle.std.proofs.lemmas.Iterator.Search.{all_from_yields_List}
+use Rattle.obj_image.proofs.Chains.{all_rows}
+use Rattle.obj_rows.specs.Symbols.{symbol_by, symbol_of}
 use Rattle.obj.proofs.symbols.all_symbols.Goals as goal
 
-pub loop-at-init : goal.loop-at-init
-loop-at-init c = (omega arith, omega arith, refl)
-
-pub loop-at-preserved : goal.loop-at-preserved
-loop-at-preserved c = (omega arith, omega arith, search (rules, all_on))
-
-pub returns-else-is_symbol_in : goal.returns-else-is_symbol_in
-returns-else-is_symbol_in c = search (rules, all_fails)
-
+-- `obj::symbols::all_symbols` is that each row passes. Assumes nothing.
 pub returns : goal.returns
-returns c = search (rules, all_ends)
+returns g c = λ p is.
+    all_from_yields_List (λ s. p (symbol_of s)) _ _ _ c.all.ensures.ran
+    (YieldsList-from_map _ symbol_by (YieldsList-from_slice c.args.symbols.now cc) c.map.ensures.closure (λ x r q k. search rules))
+    (λ x b q k. (g.met.F.Fn.1.step_stays c.args.test (x, tt) b q k, is x b ((g.met.F.FnMut.1.post_iff c.args.test (x, tt) b).1 (q, k))))
+    ∙ all_rows p symbol_of symbol_by c.args.symbols.now

@@ -1,18 +1,24 @@
-use Rattle.obj.proofs.Halving.{over_outside, over_none, over_short, over_covers}
-use native.Mathlib.Omega.{arith}
 use mathlib.Core.Path.{refl}
-use Prim.Native.Nat.{◌-◌}
+use native.Mathlib.Omega.{arith}
+use Rattle.obj.proofs.Halving.{addresses_rise, over_outside, over_none, over_short, over_covers}
 use Rattle.obj.proofs.symbols.symbol_over.Goals as goal
 
 -- `obj::symbols::symbol_over` is `symbol_over` of `rules`. Assumes nothing.
-pub returns-then-i-eq0 : goal.returns-then-i-eq0
-returns-then-i-eq0 c = over_none _ _ _ c.if-target-code.true _ _ refl c.count_below-i.ensures.0 c.if-i-eq0.true
+pub returns-then-target-code : goal.returns-then-target-code
+returns-then-target-code c = over_outside c.args.functions.now c.args.code c.args.target c.if-target-code.true
+
+pub count_below-requires : goal.count_below-requires
+count_below-requires c = addresses_rise c.args.functions.now c.requires.0 c.as_chunks.result.0.now c.as_chunks.ensures.front c.requires.1
+
+pub returns-in_default : goal.returns-in_default
+returns-in_default c = let none = c.in_default.ensures in over_none c.args.functions.now c.args.code c.args.target c.if-target-code.false c.requires.0 c.as_chunks.result.0.now c.as_chunks.ensures.front _ c.count_below.result refl c.count_below.ensures.rank (grind (arith, none))
 
 pub returns-then-low-wide : goal.returns-then-low-wide
-returns-then-low-wide c = over_covers _ _ _ c.if-target-code.true _ _ (c.count_below-i.result - 1) c.symbol_at-s.result refl c.count_below-i.ensures.0 (omega arith) c.symbol_at-s.ensures _ (omega arith) (omega arith)
+returns-then-low-wide c =
+    let some = c.in-Some.ensures in
+    over_covers c.args.functions.now c.args.code c.args.target c.if-target-code.false c.requires.0 c.as_chunks.result.0.now c.as_chunks.ensures.front _ c.count_below.result refl c.count_below.ensures.rank c.in-Some.last (omega (arith, some)) (omega (arith, some, c.count_below.ensures.bound)) c.from-s.result c.from-s.ensures _ (omega arith) (omega arith)
 
-pub returns-then-target-code : goal.returns-then-target-code
-returns-then-target-code c = over_short _ _ _ c.if-target-code.true _ _ (c.count_below-i.result - 1) c.symbol_at-s.result refl c.count_below-i.ensures.0 (omega arith) c.symbol_at-s.ensures (omega arith)
-
-pub returns : goal.returns
-returns c = over_outside _ _ _ c.if-target-code.false
+pub returns-else-low-wide : goal.returns-else-low-wide
+returns-else-low-wide c =
+    let some = c.in-Some.ensures in
+    over_short c.args.functions.now c.args.code c.args.target c.if-target-code.false c.requires.0 c.as_chunks.result.0.now c.as_chunks.ensures.front _ c.count_below.result refl c.count_below.ensures.rank c.in-Some.last (omega (arith, some)) (omega (arith, some, c.count_below.ensures.bound)) c.from-s.result c.from-s.ensures (omega arith)

@@ -1,13 +1,11 @@
-use Prim.Native.Nat.{◌+◌, ◌-◌, ◌*◌, ◌%◌, ◌≤◌}
+use Prim.Native.Nat.{◌+◌, ◌*◌, ◌≤◌}
 use mathlib.Core.Path.{◌≡◌}
-use lib.ListN.{length, drop}
+use mathlib.Core.List.{map}
+use lib.ListN.{drop}
 use Rattle.rules.specs.Check.{count_bytes}
-use Rattle.obj_image.specs.Lent.{rows, section_row}
+use Rattle.obj_image.specs.Sections.{read_row}
 use Rattle.obj_image.proofs.sections.count_bytes.Given as goal
 
 -- `obj::sections::count_bytes` adds up the bytes of the rows. Assumes nothing.
-abbrev pub invariant-loop-at : goal.invariant-loop-at
-invariant-loop-at l = (l.at ≤ length l.sections) × (l.at % 4 ≡ 0) × (l.count ≤ 0x4000_0000 * l.at) × (l.count + count_bytes (rows 4 section_row (drop l.at l.sections)) ≡ count_bytes (rows 4 section_row l.sections))
-
-abbrev pub decreases-loop-at : goal.decreases-loop-at
-decreases-loop-at l = length l.sections - l.at
+abbrev pub invariant-loop-row : goal.invariant-loop-row
+invariant-loop-row l = (l.count ≤ 0x1_0000_0000 * l.row-index) × (l.count + count_bytes (map read_row (drop l.row-index l.sections)) ≡ count_bytes (map read_row l.sections))

@@ -1,17 +1,15 @@
-use mathlib.Core.Path.{refl}
-use native.Mathlib.Omega.{arith}
-use Rattle.obj_image.proofs.Loops.{chained_on, chained_fails, chained_ends}
 use borrow.Author.Rules.{rules}
+use borrow.Author.Tests.{tests}
+use mathlib.Core.List.{[]}
+use Rattle.std.proofs.lemmas.List.Sorted.{answers_always}
+use Rattle.rules.specs.Check.{comes_before}
+use Rattle.obj_image.specs.Lent.{seen}
+use Rattle.obj_rows.specs.Skips.{read_range}
+use Rattle.obj_rows.proofs.Points.{chained_rows}
 use Rattle.obj_rows.proofs.skips.skips_ascend.Goals as goal
 
-pub loop-next-init : goal.loop-next-init
-loop-next-init c = (omega arith, omega arith, refl)
-
-pub loop-next-preserved : goal.loop-next-preserved
-loop-next-preserved c = (omega arith, omega arith, search (rules, chained_on))
-
-pub returns-else-comes_before : goal.returns-else-comes_before
-returns-else-comes_before c = search (rules, chained_fails)
-
+-- `obj::skips::skips_ascend` is that each row comes before the next. Assumes nothing.
 pub returns : goal.returns
-returns c = search (rules, chained_ends)
+returns c =
+    chained_rows (comes_before (seen [])) read_range _ c.args.skips.now
+    (c.is_sorted_by.ensures.cases (λ x y. comes_before (seen []) (read_range x) (read_range y)) (answers_always _ _ _ (λ f a r f' k. search (rules, tests))))

@@ -1,16 +1,15 @@
-use native.Mathlib.Omega.{arith}
-use Rattle.obj_rows.proofs.SkipHalving.{starts_up, starts_down, starts_end}
 use borrow.Author.Rules.{rules}
+use borrow.Author.Tests.{tests}
+use mathlib.Core.List.{[]}
+use Prim.Native.Nat.{◌+◌}
+use lib.Dec.{leb}
+use Rattle.std.proofs.lemmas.List.Sorted.{IsPartitionPoint-from_clause}
+use Rattle.obj_rows.specs.Skips.{first_of}
+use Rattle.obj_rows.proofs.Points.{passes_first, rank_point, leb_next}
 use Rattle.obj_rows.proofs.skips.starts_by.Goals as goal
 
-pub loop-lo-init : goal.loop-lo-init
-loop-lo-init c = record { order = omega arith; end = omega arith; less = λ k b. absurd (omega arith); more = λ k b b'. absurd (omega arith) }
-
-pub loop-lo-preserved-then-skips-mid : goal.loop-lo-preserved-then-skips-mid
-loop-lo-preserved-then-skips-mid c = starts_up _ c.requires _ _ _ _ c.loop-lo.invariant (omega arith) c.if-skips-mid.true
-
-pub loop-lo-preserved : goal.loop-lo-preserved
-loop-lo-preserved c = starts_down _ c.requires _ _ _ _ c.loop-lo.invariant (omega arith) (omega arith) c.if-skips-mid.false
-
-pub returns : goal.returns
-returns c = (search (rules, starts_end), omega arith)
+-- `obj::skips::starts_by` is the rank of the next address among the ranges' first ones. Assumes nothing.
+pub returns-clause-rank : goal.returns-clause-rank
+returns-clause-rank c =
+    rank_point first_of c.args.skips.now (c.args.a + 1) (λ x. leb (first_of x) c.args.a) (λ x. leb_next (first_of x) c.args.a) [] _ c.partition_point.ensures.bound
+    (IsPartitionPoint-from_clause (λ x. leb (first_of x) c.args.a) _ _ c.partition_point.ensures.partitioned (passes_first first_of c.args.skips.now (c.args.a + 1) _ (λ x. leb_next (first_of x) c.args.a) c.requires) (λ a r f k. search (rules, tests)))

@@ -1,16 +1,15 @@
-use native.Mathlib.Omega.{arith}
-use Rattle.obj_rows.proofs.Halving.{below_up, below_down, below_end}
 use borrow.Author.Rules.{rules}
+use borrow.Author.Tests.{tests}
+use mathlib.Core.Path.{refl}
+use mathlib.Core.List.{[]}
+use lib.Dec.{ltb}
+use Rattle.std.proofs.lemmas.List.Sorted.{IsPartitionPoint-from_clause}
+use Rattle.obj_rows.specs.Symbols.{address_of}
+use Rattle.obj_rows.proofs.Points.{passes_first, rank_point}
 use Rattle.obj_rows.proofs.symbols.count_below.Goals as goal
 
-pub loop-lo-init : goal.loop-lo-init
-loop-lo-init c = record { order = omega arith; end = omega arith; less = λ k b. absurd (omega arith); more = λ k b b'. absurd (omega arith) }
-
-pub loop-lo-preserved-then-functions-mid : goal.loop-lo-preserved-then-functions-mid
-loop-lo-preserved-then-functions-mid c = below_up _ c.requires.0 c.requires.1 _ _ _ _ c.loop-lo.invariant (omega arith) c.if-functions-mid.true
-
-pub loop-lo-preserved : goal.loop-lo-preserved
-loop-lo-preserved c = below_down _ c.requires.0 c.requires.1 _ _ _ _ c.loop-lo.invariant (omega arith) (omega arith) c.if-functions-mid.false
-
-pub returns : goal.returns
-returns c = (search (rules, below_end), omega arith)
+-- `obj::symbols::count_below` is the rank among the addresses. Assumes nothing.
+pub returns-clause-rank : goal.returns-clause-rank
+returns-clause-rank c =
+    rank_point address_of c.args.functions.now c.args.a (λ x. ltb (address_of x) c.args.a) (λ x. refl) [] _ c.partition_point.ensures.bound
+    (IsPartitionPoint-from_clause (λ x. ltb (address_of x) c.args.a) _ _ c.partition_point.ensures.partitioned (passes_first address_of c.args.functions.now c.args.a _ (λ x. refl) c.requires) (λ a r f k. search (rules, tests)))

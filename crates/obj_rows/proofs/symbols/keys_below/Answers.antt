@@ -1,15 +1,16 @@
-use native.Mathlib.Omega.{arith}
-use Rattle.obj_rows.proofs.KeyHalving.{keys_up, keys_down, keys_end}
+use borrow.Author.Rules.{rules}
+use borrow.Author.Tests.{tests}
+use mathlib.Core.Path.{refl}
+use mathlib.Core.List.{[]}
+use lib.Dec.{ltb}
+use Rattle.std.proofs.lemmas.List.Sorted.{IsPartitionPoint-from_clause}
+use Rattle.obj_rows.specs.Symbols.{key_of}
+use Rattle.obj_rows.proofs.Points.{passes_first, rank_point}
+use Rattle.obj_rows.proofs.KeyHalving.{key_seen}
 use Rattle.obj_rows.proofs.symbols.keys_below.Goals as goal
 
-pub loop-lo-init : goal.loop-lo-init
-loop-lo-init c = record { order = omega arith; end = omega arith; less = λ k b. absurd (omega arith); more = λ k b b'. absurd (omega arith) }
-
-pub loop-lo-preserved-then-locate-key : goal.loop-lo-preserved-then-locate-key
-loop-lo-preserved-then-locate-key c = keys_up _ _ c.requires.objects _ _ _ _ _ c.loop-lo.invariant (omega arith) c.locate.ensures c.if-locate-key.true
-
-pub loop-lo-preserved : goal.loop-lo-preserved
-loop-lo-preserved c = keys_down _ _ c.requires.objects _ _ _ _ _ c.loop-lo.invariant (omega arith) c.locate.ensures (omega arith) c.if-locate-key.false
-
-pub returns : goal.returns
-returns c = (keys_end _ _ c.requires.objects _ _ _ c.loop-lo.invariant (omega arith), omega arith)
+-- `obj::symbols::keys_below` is the rank among the keys. Assumes nothing.
+pub returns-clause-rank : goal.returns-clause-rank
+returns-clause-rank c =
+    rank_point (key_of c.args.sections.now) c.args.objects.now c.args.key (λ x. ltb (key_of c.args.sections.now x) c.args.key) (λ x. refl) [] _ c.partition_point.ensures.bound
+    (IsPartitionPoint-from_clause (λ x. ltb (key_of c.args.sections.now x) c.args.key) _ _ c.partition_point.ensures.partitioned (passes_first (key_of c.args.sections.now) c.args.objects.now c.args.key _ (λ x. refl) c.requires.rise) (λ a r f k. search (rules, tests, key_seen)))
