@@ -29,7 +29,8 @@ pub record Cut (s : Small) (l starts ends froms tos references addresses sizes :
 -- the lines of a function's lists, from the columns among its numbers
 abbrev pub listed : Small → List ℕ → List ℕ
 listed s l =
+    let references : List ℕ = take s.function_references (drop (at_references s) l) in
     columns.lines Block (take s.blocks l) (take s.blocks (drop s.blocks l)) ++
     columns.lines Way (take s.branches (drop (at_froms s) l)) (take s.branches (drop (at_tos s) l)) ++
-    columns.lines Reference (take s.function_references (drop (at_references s) l)) (take s.function_references (drop (at_references s) l)) ++
+    columns.lines Reference references references ++
     columns.lines Table (take s.jump_table_references (drop (at_addresses s) l)) (take s.jump_table_references (drop (at_sizes s) l))
