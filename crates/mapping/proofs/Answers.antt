@@ -95,13 +95,10 @@ module _ (rows₀ lists₀ rows lists : List ℕ) (r : Map) where
 
 -- ---- the lists that a text came to
 
-pub first : (n : ℕ) (l : List ℕ) → take (n - 0) (drop 0 l) ≡ take n l
-first n l = let z : n - 0 ≡ n = omega arith in rw z
-
 module _ (q : Reading) (s b o f j k e : List ℕ) (cap : Capacity) (out out' : List ℕ) (r : ℕ) where
-  pub read_answered : q.ok ≡ true → Begun (text (lines (run (given (lent (take (q.sections - 0) (drop 0 s)) (take (q.bytes - 0) (drop 0 b)) (take (q.outcomes - 0) (drop 0 o)) (take (q.functions - 0) (drop 0 f)) (take (q.objects - 0) (drop 0 j)) (take (q.skips - 0) (drop 0 k)) (take (q.entry - 0) (drop 0 e)))) cap))) out out' r → Begun (text (lines (answer (view q s b o f j k e) cap))) out out' r
+  pub read_answered : q.ok ≡ true → Begun (text (lines (run (given (lent (take q.sections s) (take q.bytes b) (take q.outcomes o) (take q.functions f) (take q.objects j) (take q.skips k) (take q.entry e))) cap))) out out' r → Begun (text (lines (answer (view q s b o f j k e) cap))) out out' r
   unfolding view if
-  read_answered h p = rw h (rw (first q.sections s, first q.bytes b, first q.outcomes o, first q.functions f, first q.objects j, first q.skips k, first q.entry e) at p)
+  read_answered h p = rw h p
 
   pub not_read : q.ok ≡ false → Begun (text (lines (fault 1))) out out' r → Begun (text (lines (answer (view q s b o f j k e) cap))) out out' r
   unfolding view if

@@ -7,7 +7,7 @@ use Rattle.rules.specs.Text.{bytes}
 use Rattle.rules.specs.Lines.{text}
 use Rattle.rules.proofs.Whole.{whole}
 use Rattle.obj_image.specs.Lent.{rows, given}
-use Rattle.reading.specs.Frames.{digit_value, number, tagged, read_frame}
+use Rattle.reading.specs.Frames.{number, tagged, read_frame}
 use Rattle.reading.specs.LastRows.{back, set_back, last_kind, add_word, last_is}
 use Rattle.reading.specs.Rows.{add_row}
 use Rattle.reading.specs.PutFrame.{onward, put_frame, put_line}
@@ -28,7 +28,7 @@ five =
 
 -- with the room that `fmap` has
 pub sample_map_text : map_text image_room map_room three ≡ five
-unfolding map_text read_text put_line put_frame onward add_row add_word last_kind last_is back set_back digit_value number tagged read_frame rows given if whole
+unfolding map_text read_text put_line put_frame onward add_row add_word last_kind last_is back set_back number tagged read_frame rows given if whole
 sample_map_text = refl
 
 -- and so this is what it prints

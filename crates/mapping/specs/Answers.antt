@@ -1,6 +1,6 @@
 -- What is printed of the image that a text of frames stands for.
 use Rattle.std.specs.Prelude.{◌≡◌, List, ℕ, ◌<◌, ◌≤◌, ltb, length}
-use Rattle.std.proofs.Math.Option.{Option, none, some}
+use Rattle.std.specs.Prelude.{Option, None, Some}
 use Rattle.rules.specs.Choice.{if, Answer, ok, fault}
 use Rattle.rules.specs.Known.{Entry}
 use Rattle.rules.specs.Map.{Capacity}
@@ -13,8 +13,8 @@ use Rattle.printing.specs.Rows.{Tells}
 
 -- the run of the lists that a text came to; "a line that is no frame, prints R 01 alone"
 abbrev pub answer : Option Lent → Capacity → Answer (List Entry)
-answer none cap = fault 1
-answer (some l) cap = run (given l) cap
+answer None cap = fault 1
+answer (Some l) cap = run (given l) cap
 
 -- the whole of `fmap`: what it prints of a text, where the lists have this room
 unfoldable pub map_text : Room → Capacity → List ℕ → List ℕ

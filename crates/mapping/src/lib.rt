@@ -14,6 +14,12 @@ ghost use Rattle.mapping.specs.Answers.{answer, map_text, image_room, map_room, 
 
 use reading::state::Reading;
 
+// The number of a text with a line that is no frame.
+const NO_FRAME: u32 = 1;
+
+// The texts that `fmap` takes are shorter than this.
+const TEXT_ROOM: usize = 0x10_0000;
+
 // The text of an answer: the map that the result lists hold, or the number alone.
 fn print_answer(number: u32, count: usize, rows: &[u64], lists: &[u64], out: &mut [u8]) -> usize
     requires shown { Showing number count rows.now lists.now }
@@ -23,9 +29,10 @@ fn print_answer(number: u32, count: usize, rows: &[u64], lists: &[u64], out: &mu
         Begun (rules.text (rules.lines a)) out.old out.new result }
 {
     if number == 0 {
-        return printing::put_map(rows, lists, count, out);
+        printing::put_map(rows, lists, count, out)
+    } else {
+        printing::put_refusal(number, out)
     }
-    printing::put_refusal(number, out)
 }
 
 // The lists of an image to the text of its map.
@@ -84,27 +91,21 @@ fn map_read(
         out.old out.new result }
 {
     if q.ok {
-        let s = q.sections;
-        let b = q.bytes;
-        let o = q.outcomes;
-        let f = q.functions;
-        let j = q.objects;
-        let k = q.skips;
-        let e = q.entry;
-        return map_lists(
-            &sections[0..s],
-            &bytes[0..b],
-            &outcomes[0..o],
-            &functions[0..f],
-            &objects[0..j],
-            &skips[0..k],
-            &entry[0..e],
+        map_lists(
+            &sections[..q.sections],
+            &bytes[..q.bytes],
+            &outcomes[..q.outcomes],
+            &functions[..q.functions],
+            &objects[..q.objects],
+            &skips[..q.skips],
+            &entry[..q.entry],
             rows,
             lists,
             out,
-        );
+        )
+    } else {
+        printing::put_refusal(NO_FRAME, out)
     }
-    printing::put_refusal(1, out)
 }
 
 // A text of frames to the text of its map, which `out` then begins with; the answer is how long it is. The other arrays are room to work
@@ -170,8 +171,8 @@ pub fn fmap_text(text: &[u8], out: &mut [u8; 1489000]) -> usize
     requires { length out.old ≡ 1489000 }
     ensures { Begun (fmap_text text.now) out.old out.new result }
 {
-    if text.len() >= 1048576 {
-        return printing::put_refusal(1, out);
+    if text.len() >= TEXT_ROOM {
+        return printing::put_refusal(NO_FRAME, out);
     }
     map_image(text, out)
 }

@@ -3,11 +3,10 @@ use mathlib.Core.Path.{◌≡◌, refl, sym, ap, ap₂, ◌∙◌}
 use mathlib.Core.Bool.{Bool, true, false, ◌&&◌, not}
 use mathlib.Core.List.{List, [], ◌∷◌, ◌++◌, append_assoc}
 use mathlib.Core.Option.{Option, none, some}
-use Prim.Native.Nat.{ℕ, ◌/◌, ◌%◌}
+use Prim.Native.Nat.{ℕ, ◌/◌}
 use lib.Dec.{eqb}
 use lib.ListN.{drop, get_or}
 use lib.Seq.{get_or-drop}
-use borrow.Author.Tests.{eq-eqb, ne_eqb}
 use Rattle.rules.specs.Choice.{if, if_true, if_false}
 use Rattle.rules.specs.Text.{bytes}
 use Rattle.rules.specs.Slices.{Slices}
@@ -17,25 +16,11 @@ use Rattle.rules.proofs.Tests.{and_right}
 use Rattle.function_slices.specs.declared.Small.{Small}
 use Rattle.entries.specs.Columns.{slices_from}
 use Rattle.entries.specs.Table.{odd, small_from}
-use Rattle.printing.specs.Columns.{second, tagged, line, function_line}
+use Rattle.printing.specs.Columns.{tagged, line, function_line}
+use Rattle.printing.specs.declared.line.Kind.TheVariants.{SetAside}
 use Rattle.printing.specs.Rows.{first_entry}
-use Rattle.printing.specs.Told.{of_function, flow, others}
-use Rattle.printing.proofs.Columns.{text_append, flow_is, others_is}
-
--- ---- the tests
-
-module _ (flags end : ℕ) where
-  pub not_analyzed : (flags % 2 ≡ 1 → ⊥) → false ≡ of_function flags end
-  unfolding odd
-  not_analyzed h = sym (rw (ne_eqb (flags % 2) 1 h) refl)
-
-  pub no_end : flags % 2 ≡ 1 → end ≡ 0 → false ≡ of_function flags end
-  unfolding odd
-  no_end h z = sym (rw (eq-eqb (flags % 2) 1 h, eq-eqb end 0 z) refl)
-
-  pub by_lists : flags % 2 ≡ 1 → (end ≡ 0 → ⊥) → eqb (flags / 2 % 2) 1 ≡ of_function flags end
-  unfolding odd
-  by_lists h z = sym (rw (eq-eqb (flags % 2) 1 h, ne_eqb end 0 z) refl)
+use Rattle.printing.specs.Told.{of_function, listed}
+use Rattle.printing.proofs.Columns.{text_append, listed_is}
 
 -- ---- the lines
 
@@ -47,9 +32,6 @@ has_lists : (b : Bool) (s : Slices) → is_some (if b (some s) none) ≡ b
 unfolding if
 has_lists true s = refl
 has_lists false s = refl
-
-five : (f b c x j : List ℕ) → f ++ (b ++ c ++ x ++ j) ≡ f ++ (b ++ c) ++ (x ++ j)
-five f b c x j = simp append_assoc
 
 module _ (rows lists : List ℕ) where
   abbrev s : Small
@@ -74,29 +56,23 @@ module _ (rows lists : List ℕ) where
       let j : List Line = lines_J (slices_from s lists).jump_table_references in
       text_append (b ++ c ++ x) j ∙ ap (λ (t : List ℕ). t ++ text j) (text_append (b ++ c) x ∙ ap (λ (t : List ℕ). t ++ text x) (text_append b c))
 
-  of_a_function : (r : Bool) → r ≡ of_function (get_or rows 2 0) (get_or rows 1 0) → r ≡ true → text (lines_entry (first_entry rows lists)) ≡ function_line (get_or rows 0 0) (get_or rows 1 0) s.prologue s.epilogue s.conditional s.rfi s.load ++ flow s lists ++ others s lists
+  of_a_function : (r : Bool) → r ≡ of_function (get_or rows 2 0) (get_or rows 1 0) → r ≡ true → text (lines_entry (first_entry rows lists)) ≡ function_line (get_or rows 0 0) (get_or rows 1 0) s.prologue s.epilogue s.conditional s.rfi s.load ++ listed s lists
   unfolding lines_entry
   of_a_function r e t =
       let yes : is_function (first_entry rows lists) ≡ true = tested ∙ sym e ∙ t in
-      let listed : odd (get_or (drop 2 rows) 0 0 / 2) ≡ true = ap (λ (f : ℕ). odd (f / 2)) (get_or-drop 2 rows 0 0) ∙ and_right (odd (get_or rows 2 0) && not (eqb (get_or rows 1 0) 0)) (odd (get_or rows 2 0 / 2)) (sym e ∙ t) in
+      let has : odd (get_or (drop 2 rows) 0 0 / 2) ≡ true = ap (λ (f : ℕ). odd (f / 2)) (get_or-drop 2 rows 0 0) ∙ and_right (odd (get_or rows 2 0) && not (eqb (get_or rows 1 0) 0)) (odd (get_or rows 2 0 / 2)) (sym e ∙ t) in
       let o : Option Slices = (first_entry rows lists).slices in
       let f : List ℕ = line_F (first_entry rows lists) (slices_from s lists) ++ bytes "\n" in
-      let b : List ℕ = text (lines_B (slices_from s lists).blocks) in
-      let c : List ℕ = text (lines_C (slices_from s lists).branches) in
-      let x : List ℕ = text (lines_X (slices_from s lists).function_references) in
-      let j : List ℕ = text (lines_J (slices_from s lists).jump_table_references) in
       ap text (if_true yes (lines_function (first_entry rows lists) o) ((bytes "N " ++ address (get_or rows 0 0)) ∷ []))
-      ∙ ap (λ (o : Option Slices). text (lines_function (first_entry rows lists) o)) (if_true listed (some (slices_from s lists)) none)
-      ∙ ap (λ (t : List ℕ). f ++ t) lists_lines
-      ∙ five f b c x j
-      ∙ ap (λ (g : List ℕ). g ++ (b ++ c) ++ (x ++ j)) (first_line (first_entry rows lists) refl refl)
-      ∙ ap₂ (λ (g h : List ℕ). function_line (get_or rows 0 0) (get_or rows 1 0) s.prologue s.epilogue s.conditional s.rfi s.load ++ g ++ h) (flow_is s lists) (others_is s lists)
+      ∙ ap (λ (o : Option Slices). text (lines_function (first_entry rows lists) o)) (if_true has (some (slices_from s lists)) none)
+      ∙ ap (λ (t : List ℕ). f ++ t) (lists_lines ∙ listed_is s lists)
+      ∙ ap (λ (g : List ℕ). g ++ listed s lists) (first_line (first_entry rows lists) refl refl)
 
   -- the same where the row was read
-  pub of_a_row : (r : Bool) → r ≡ of_function (get_or rows 2 0) (get_or rows 1 0) → r ≡ true → (m : Small) → m ≡ small_from (drop 2 rows) → text (lines_entry (first_entry rows lists)) ≡ function_line (get_or rows 0 0) (get_or rows 1 0) m.prologue m.epilogue m.conditional m.rfi m.load ++ flow m lists ++ others m lists
-  of_a_row r e t m w = of_a_function r e t ∙ ap (λ (m : Small). function_line (get_or rows 0 0) (get_or rows 1 0) m.prologue m.epilogue m.conditional m.rfi m.load ++ flow m lists ++ others m lists) (sym w)
+  pub of_a_row : (r : Bool) → r ≡ of_function (get_or rows 2 0) (get_or rows 1 0) → r ≡ true → (m : Small) → m ≡ small_from (drop 2 rows) → text (lines_entry (first_entry rows lists)) ≡ function_line (get_or rows 0 0) (get_or rows 1 0) m.prologue m.epilogue m.conditional m.rfi m.load ++ listed m lists
+  of_a_row r e t m w = of_a_function r e t ∙ ap (λ (m : Small). function_line (get_or rows 0 0) (get_or rows 1 0) m.prologue m.epilogue m.conditional m.rfi m.load ++ listed m lists) (sym w)
 
-  pub set_aside : (r : Bool) → r ≡ of_function (get_or rows 2 0) (get_or rows 1 0) → r ≡ false → text (lines_entry (first_entry rows lists)) ≡ line 78 (get_or rows 0 0) 0
-  unfolding lines_entry second if
+  pub set_aside : (r : Bool) → r ≡ of_function (get_or rows 2 0) (get_or rows 1 0) → r ≡ false → text (lines_entry (first_entry rows lists)) ≡ line SetAside (get_or rows 0 0) 0
+  unfolding lines_entry if
   set_aside r e t =
       ap text (if_false (tested ∙ sym e ∙ t) (lines_function (first_entry rows lists) (first_entry rows lists).slices) ((bytes "N " ++ address (get_or rows 0 0)) ∷ []))

@@ -4,3 +4,4 @@ pub mod Lengths
 pub mod Maps
 pub mod Printing
 pub mod Lines
+pub mod Digits

@@ -3,8 +3,8 @@ use mathlib.Core.Path.{◌≡◌, sym, ap, ap₂, ◌∙◌}
 use mathlib.Core.List.{List, [], ◌∷◌, ◌++◌, append_assoc}
 use Prim.Native.Nat.{ℕ, suc, ◌+◌, ◌*◌, ◌-◌, ◌<◌, ◌≤◌}
 use native.Mathlib.Omega.{arith}
-use lib.ListN.{length, take, drop, replicate, length-append, length-drop}
-use lib.Seq.{drop_at, take_all, drop-drop}
+use lib.ListN.{length, drop, replicate, length-append}
+use lib.Seq.{drop_at}
 use Rattle.rules.specs.Choice.{ok, fault}
 use Rattle.rules.specs.Known.{Entry}
 use Rattle.rules.specs.Lines.{text, line_R, lines_entry, lines_map, lines}
@@ -13,7 +13,7 @@ use Rattle.entries.proofs.Rows.{row_long, row_behind, row_numbers, begins_form, 
 use Rattle.results.specs.Rows.{result_row, map_of, Results}
 use Rattle.results.proofs.Reading.{map_read}
 use Rattle.printing.specs.Printed.{Room, Printed}
-use Rattle.printing.proofs.Printing.{printed_then, Going, going_first, going_on, going_ends}
+use Rattle.printing.proofs.Printing.{printed_then, room_first, Going, going_first, going_on, going_ends}
 use Rattle.printing.specs.Rows.{first_entry, There, Tells, Telling}
 use Rattle.printing.specs.Told.{Begun}
 use Rattle.printing.proofs.Columns.{text_append}
@@ -69,58 +69,35 @@ results_tell n es rows_before lists_before rows lists total count right r =
 
 -- ---- the loop over them
 
--- a slice from a place on
-pub tail_is : (a : ℕ) (l : List ℕ) → take (length l - a) (drop a l) ≡ drop a l
-tail_is a l = take_all (length l - a) (drop a l) (omega (arith, length-drop a l))
+-- what is printed of the n entries that are left makes the whole
+pub record Left (n : ℕ) (rows lists whole out₀ : List ℕ) (at : ℕ) (out : List ℕ) (p : ℕ) : Type 0 where
+  pub there : There n rows lists
+  pub going : Going (text (lines_map (map_of n rows lists))) whole out₀ at out p
 
-pub record Left (n : ℕ) (rows lists out₀ : List ℕ) (at i q : ℕ) (out : List ℕ) (p : ℕ) : Type 0 where
-  pub count : i ≤ n
-  pub low : q ≤ length lists
-  pub there : There (n - i) (drop (i * 10) rows) (drop q lists)
-  pub going : Going (text (lines_map (map_of (n - i) (drop (i * 10) rows) (drop q lists)))) (text (lines_map (map_of n rows lists))) out₀ at out p
+pub left_first : (n at : ℕ) (rows lists out : List ℕ) → There n rows lists → Room (text (lines_map (map_of n rows lists))) out at → Left (n - 0) rows lists (text (lines_map (map_of n rows lists))) out at out at
+left_first n at rows lists out t r =
+    let z : n - 0 ≡ n = omega arith in
+    record { there = rw z t; going = rw z (going_first _ out at r) }
 
-module _ (n : ℕ) (rows lists out₀ : List ℕ) (at : ℕ) where
-  pub left_first : There n rows lists → Room (text (lines_map (map_of n rows lists))) out₀ at → Left n rows lists out₀ at 0 0 out₀ at
-  left_first t r =
-      let z : n - 0 ≡ n = omega arith in
-      record { count = omega arith; low = omega arith; there = rw z t; going = rw z (going_first _ out₀ at r) }
+module _ {n i at p : ℕ} {rows lists whole out₀ out : List ℕ} (l : Left (n - i) rows lists whole out₀ at out p) where
+  pub left_ends : n ≤ i → Printed whole out₀ at out p
+  left_ends h = let z : n - i ≡ 0 = omega arith in going_ends (rw z at l.going)
 
-  module _ (i q : ℕ) (out : List ℕ) (p : ℕ) (l : Left n rows lists out₀ at i q out p) where
-    pub left_ends : n ≤ i → Printed (text (lines_map (map_of n rows lists))) out₀ at out p
-    left_ends h = let z : n - i ≡ 0 = omega arith in going_ends (rw z at l.going)
+  module _ (lt : i < n) where
+    one_more : Left (suc (n - (i + 1))) rows lists whole out₀ at out p
+    one_more = let e : n - i ≡ suc (n - (i + 1)) = omega arith in rw e at l
 
-    module _ (lt : i < n) where
-      one : n - i ≡ suc (n - (i + 1))
-      one = omega arith
+    pub first_there : (10 ≤ length rows) × (row_size (drop 2 rows) ≤ length lists)
+    first_there = (one_more.there.0, one_more.there.1)
 
-      pub first_there : (10 ≤ length (drop (i * 10) rows)) × (row_size (drop 2 (drop (i * 10) rows)) ≤ length (drop q lists))
-      first_there = let t : There (suc (n - (i + 1))) (drop (i * 10) rows) (drop q lists) = rw one at l.there in (t.0, t.1)
+    split : Going (text (lines_entry (first_entry rows lists)) ++ text (lines_map (map_of (n - (i + 1)) (drop 10 rows) (drop (row_size (drop 2 rows)) lists)))) whole out₀ at out p
+    split = rw (text_append (lines_entry (first_entry rows lists)) _) at one_more.going
 
-      -- its row is within the rows
-      pub row_within : i * 10 + 10 ≤ length rows
-      row_within = omega (arith, first_there.0, length-drop (i * 10) rows)
+    pub first_room : Room (text (lines_entry (first_entry rows lists))) out p
+    first_room = room_first _ _ _ _ split.room
 
-      pub size_there : (10 ≤ length (drop (i * 10) rows)) × (row_size (drop 2 (drop (i * 10) rows)) ≤ length lists - q)
-      size_there = (first_there.0, omega (arith, first_there.1, length-drop q lists))
-
-      split : text (lines_map (map_of (n - i) (drop (i * 10) rows) (drop q lists))) ≡ text (lines_entry (first_entry (drop (i * 10) rows) (drop q lists))) ++ text (lines_map (map_of (n - (i + 1)) (drop 10 (drop (i * 10) rows)) (drop (row_size (drop 2 (drop (i * 10) rows))) (drop q lists))))
-      split = rw one (text_append (lines_entry (first_entry (drop (i * 10) rows) (drop q lists))) _)
-
-      pub first_room : Room (text (lines_entry (first_entry (drop (i * 10) rows) (drop q lists)))) out p
-      first_room = record { fits = omega (arith, l.going.room.fits, ap length split, length-append (text (lines_entry (first_entry (drop (i * 10) rows) (drop q lists)))) (text (lines_map (map_of (n - (i + 1)) (drop 10 (drop (i * 10) rows)) (drop (row_size (drop 2 (drop (i * 10) rows))) (drop q lists)))))) }
-
-      pub left_next : (m : List ℕ) (next k : ℕ) → Printed (text (lines_entry (first_entry (drop (i * 10) rows) (drop q lists)))) out p m next → k ≡ row_size (drop 2 (drop (i * 10) rows)) → Left n rows lists out₀ at (i + 1) (q + k) m next
-      left_next m next k pr e =
-          let ten : i * 10 + 10 ≡ (i + 1) * 10 = omega arith in
-          let rs : drop 10 (drop (i * 10) rows) ≡ drop ((i + 1) * 10) rows = drop-drop 10 (i * 10) rows ∙ ap (λ (j : ℕ). drop j rows) ten in
-          let ls : drop (row_size (drop 2 (drop (i * 10) rows))) (drop q lists) ≡ drop (q + k) lists = drop-drop _ q lists ∙ ap (λ (j : ℕ). drop (q + j) lists) (sym e) in
-          let t : There (suc (n - (i + 1))) (drop (i * 10) rows) (drop q lists) = rw one at l.there in
-          record {
-            count = omega arith;
-            low = omega (arith, first_there.1, length-drop q lists, l.low);
-            there = rw (sym rs, sym ls) t.2;
-            going = rw (sym rs, sym ls) (going_on (rw split at l.going) pr);
-          }
+    pub left_next : {m : List ℕ} {next k : ℕ} → Printed (text (lines_entry (first_entry rows lists))) out p m next → k ≡ row_size (drop 2 rows) → Left (n - (i + 1)) (drop 10 rows) (drop k lists) whole out₀ at m next
+    left_next pr e = rw e (record { there = one_more.there.2; going = going_on split pr })
 
 -- ---- the whole text
 

@@ -1,29 +1,38 @@
--- Lines of one or two numbers, by the letter that they begin with: B a block, C a way on, J a jump table; X a reference and N an entry that
--- is set aside have one number.
-use Rattle.std.specs.Prelude.{List, [], ◌∷◌, ◌++◌, ℕ, Bool, eqb}
-use Rattle.rules.specs.Choice.{if}
+-- Lines of one or two numbers, by their kind; a reference and an entry that is set aside have one.
+use Rattle.std.specs.Prelude.{List, [], ◌∷◌, ◌++◌, ℕ, Bool}
 use Rattle.rules.specs.Lines.{Line, hex, address, address_or_dash, flag}
+use Rattle.printing.specs.declared.line.Kind.{Kind}
+use Rattle.printing.specs.declared.line.Kind.TheVariants.{Block, Way, Reference, Table, SetAside}
 
--- the second number behind its space, if the letter has one
-unfoldable pub second : ℕ → ℕ → Line
-second t b =
-    if (eqb t 66) (32 ∷ address_or_dash b)
-    (if (eqb t 67) (32 ∷ address b)
-    (if (eqb t 74) (32 ∷ hex 8 b) []))
+-- the letter that it begins with: B, C, X, J, N
+abbrev pub letter : Kind → ℕ
+letter Block = 66
+letter Way = 67
+letter Reference = 88
+letter Table = 74
+letter SetAside = 78
+
+-- the second number behind its space, if the kind has one
+abbrev pub second : Kind → ℕ → Line
+second Block b = 32 ∷ address_or_dash b
+second Way b = 32 ∷ address b
+second Reference b = []
+second Table b = 32 ∷ hex 8 b
+second SetAside b = []
 
 -- a letter and an address
 abbrev pub tagged : ℕ → ℕ → Line
 tagged t a = t ∷ 32 ∷ address a
 
 -- a line with its newline
-abbrev pub line : ℕ → ℕ → ℕ → Line
-line t a b = tagged t a ++ second t b ++ (10 ∷ [])
+abbrev pub line : Kind → ℕ → ℕ → Line
+line k a b = tagged (letter k) a ++ second k b ++ (10 ∷ [])
 
 -- a line for each row of two columns
-abbrev pub lines : ℕ → List ℕ → List ℕ → List ℕ
-lines t [] qs = []
-lines t (a ∷ ps) [] = []
-lines t (a ∷ ps) (b ∷ qs) = line t a b ++ lines t ps qs
+abbrev pub lines : Kind → List ℕ → List ℕ → List ℕ
+lines k [] qs = []
+lines k (a ∷ ps) [] = []
+lines k (a ∷ ps) (b ∷ qs) = line k a b ++ lines k ps qs
 
 -- the digits for conditional `blr`, `rfi` and load of r1, and the newline
 abbrev pub flags : Bool → Bool → Bool → Line

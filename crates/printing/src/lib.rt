@@ -12,45 +12,69 @@ ghost use Rattle.entries.specs.Table.{row_size};
 ghost use Rattle.printing.specs.Printed.{Room, Printed};
 ghost use Rattle.results.specs.Rows.{map_of};
 ghost use Rattle.printing.specs.Rows.{first_entry, There, Tells, Telling};
-ghost use Rattle.printing.specs.Told.{Begun, of_function, flow, others};
+ghost use Rattle.printing.specs.Told.{Begun, of_function, listed, Cut};
 
-// Blocks and ways on, from a function's numbers.
-fn put_flow(out: &mut [u8], at: usize, l: &[u64], slices: function_slices::Small) -> usize
-    requires long { numbers_long slices ≤ length l.now }
-    requires room { Room (flow slices l.now) out.old at }
-    ensures { Printed (flow slices l.now) out.old at out.new result }
-{
-    let b = slices.blocks;
-    let c = b + b;
-    let d = c + slices.branches;
-    let p = crate::line::put_lines(out, at, 66, l, 0, b, b);
-    crate::line::put_lines(out, p, 67, l, c, d, slices.branches)
+use crate::line::{Kind, put_answer, put_function_line, put_line, put_lines};
+use function_slices::Small;
+
+// How many numbers the row of an entry has.
+const ROW: usize = 10;
+
+// The columns that a function's numbers are made of, but for its possible blocks.
+#[derive(Clone, Copy)]
+struct Parts<'a> {
+    starts: &'a [u64],
+    ends: &'a [u64],
+    froms: &'a [u64],
+    tos: &'a [u64],
+    references: &'a [u64],
+    addresses: &'a [u64],
+    sizes: &'a [u64],
 }
 
-// References and jump tables.
-fn put_others(out: &mut [u8], at: usize, l: &[u64], slices: function_slices::Small) -> usize
-    requires long { numbers_long slices ≤ length l.now }
-    requires room { Room (others slices l.now) out.old at }
-    ensures { Printed (others slices l.now) out.old at out.new result }
+#[tactic(auto, using(crate::proofs::Columns::cut_of))]
+fn split(numbers: &[u64], slices: Small) -> Parts<'_>
+    requires { numbers_long slices ≤ length numbers.now }
+    ensures { Cut slices numbers.now result.starts.now result.ends.now result.froms.now result.tos.now
+        result.references.now result.addresses.now result.sizes.now }
 {
-    let a = slices.blocks + slices.blocks + slices.branches + slices.branches;
-    let b = a + slices.function_references;
-    let c = b + slices.jump_table_references;
-    let p = crate::line::put_lines(out, at, 88, l, a, a, slices.function_references);
-    crate::line::put_lines(out, p, 74, l, b, c, slices.jump_table_references)
+    let (starts, rest) = numbers.split_at(slices.blocks);
+    let (ends, rest) = rest.split_at(slices.blocks);
+    let (froms, rest) = rest.split_at(slices.branches);
+    let (tos, rest) = rest.split_at(slices.branches);
+    let (references, rest) = rest.split_at(slices.function_references);
+    let (addresses, rest) = rest.split_at(slices.jump_table_references);
+    let (sizes, _) = rest.split_at(slices.jump_table_references);
+    Parts {
+        starts,
+        ends,
+        froms,
+        tos,
+        references,
+        addresses,
+        sizes,
+    }
+}
+
+// The lines of a function's lists, from its numbers.
+fn put_lists(out: &mut [u8], at: usize, numbers: &[u64], slices: Small) -> usize
+    requires long { numbers_long slices ≤ length numbers.now }
+    requires room { Room (listed slices numbers.now) out.old at }
+    ensures { Printed (listed slices numbers.now) out.old at out.new result }
+{
+    let parts = split(numbers, slices);
+    let p = put_lines(out, at, Kind::Block, parts.starts, parts.ends);
+    let q = put_lines(out, p, Kind::Way, parts.froms, parts.tos);
+    let t = put_lines(out, q, Kind::Reference, parts.references, parts.references);
+    put_lines(out, t, Kind::Table, parts.addresses, parts.sizes)
 }
 
 // Whether flags and an end are those of a function.
+#[tactic(auto, unfolding(entries::specs::Table::odd))]
 fn is_function(flags: u64, end: u64) -> bool
     ensures { result ≡ of_function flags end }
 {
-    if flags % 2 == 1 {
-        if end == 0 {
-            return false;
-        }
-        return flags / 2 % 2 == 1;
-    }
-    false
+    flags % 2 == 1 && end != 0 && flags / 2 % 2 == 1
 }
 
 // The lines of the first entry.
@@ -60,22 +84,24 @@ fn put_entry(out: &mut [u8], at: usize, rows: &[u64], lists: &[u64]) -> usize
     ensures { Printed (rules.text (rules.lines_entry (first_entry rows.now lists.now)))
         out.old at out.new result }
 {
-    if is_function(rows[2], rows[1]) {
-        let s = entries::read_row(rows, 2);
-        let p = crate::line::put_function_line(out, at, rows[0], rows[1], s);
-        let q = put_flow(out, p, lists, s);
-        return put_others(out, q, lists, s);
+    let entry = rows[0];
+    let end = rows[1];
+    if is_function(rows[2], end) {
+        let slices = entries::read_row(rows, 2);
+        let p = put_function_line(out, at, entry, end, slices);
+        put_lists(out, p, lists, slices)
+    } else {
+        put_line(out, at, Kind::SetAside, entry, 0)
     }
-    crate::line::put_line(out, at, 78, rows[0], 0)
 }
 
 // How many numbers the first entry's lists take.
 fn first_size(rows: &[u64], room: usize) -> usize
     requires { (10 ≤ length rows.now) × (row_size (drop 2 rows.now) ≤ room) }
-    ensures { result ≡ row_size (drop 2 rows.now) }
+    ensures is { result ≡ row_size (drop 2 rows.now) }
+    ensures within { result ≤ room }
 {
-    let s = entries::read_row(rows, 2);
-    entries::size(s, room)
+    entries::size(entries::read_row(rows, 2), room)
 }
 
 // The lines of `count` entries.
@@ -85,15 +111,14 @@ fn put_entries(out: &mut [u8], at: usize, rows: &[u64], lists: &[u64], count: us
     ensures { Printed (rules.text (rules.lines_map (map_of count rows.now lists.now)))
         out.old at out.new result }
 {
-    let room = lists.len();
     let mut p = at;
-    let mut q: usize = 0;
-    let mut i: usize = 0;
-    while i < count {
-        let a = i * 10;
-        p = put_entry(out, p, &rows[a..], &lists[q..]);
-        q += first_size(&rows[a..], room - q);
-        i += 1;
+    let mut rows = rows;
+    let mut lists = lists;
+    for _ in 0..count {
+        p = put_entry(out, p, rows, lists);
+        let size = first_size(rows, lists.len());
+        lists = lists.split_at(size).1;
+        rows = rows.split_at(ROW).1;
     }
     p
 }
@@ -106,7 +131,7 @@ pub fn put_map(rows: &[u64], lists: &[u64], count: usize, out: &mut [u8]) -> usi
         Tells count rows.now lists.now es →
         Begun (rules.text (rules.lines (ok es))) out.old out.new result }
 {
-    let p = crate::line::put_answer(out, 0, 0);
+    let p = put_answer(out, 0, 0);
     put_entries(out, p, rows, lists, count)
 }
 
@@ -115,5 +140,5 @@ pub fn put_refusal(number: u32, out: &mut [u8]) -> usize
     requires { (number < 100) × (5 ≤ length out.old) }
     ensures { Begun (rules.text (rules.lines (fault number))) out.old out.new result }
 {
-    crate::line::put_answer(out, 0, number)
+    put_answer(out, 0, number)
 }

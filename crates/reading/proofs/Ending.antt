@@ -2,7 +2,7 @@
 use mathlib.Core.Path.{◌≡◌, refl, sym, ap, ap₂, ◌∙◌}
 use mathlib.Core.List.{List, [], ◌∷◌}
 use mathlib.Core.Bool.{true, false}
-use mathlib.Core.Option.{none, some}
+use Rattle.std.specs.Prelude.{None, Some}
 use Prim.Native.Nat.{ℕ, ◌+◌, ◌-◌, ◌/◌, ◌%◌, ◌<◌, ◌≤◌}
 use native.Mathlib.Omega.{arith}
 use lib.Dec.{leb, eqb}
@@ -58,13 +58,13 @@ module _ (n : ℕ) (xs : List ℕ) (room : n ≤ length xs) where
   word_there kind e = rw long at (leb-true 6 (length (take n xs)) (and_left (leb 6 (length (take n xs))) _ (sym e)))
 
   module _ (kind : ℕ) (l : List ℕ) where
-    pub told_none : false ≡ last_is kind (take n xs) → Told n xs xs false (if (last_is kind (take n xs)) (some l) none)
+    pub told_none : false ≡ last_is kind (take n xs) → Told n xs xs false (if (last_is kind (take n xs)) (Some l) None)
     unfolding told if
     told_none e = record { size = refl; same = rw (sym e) refl }
 
-    pub told_now : (ys : List ℕ) → true ≡ last_is kind (take n xs) → Now n xs ys l → Told n xs ys true (if (last_is kind (take n xs)) (some l) none)
+    pub told_now : (ys : List ℕ) → true ≡ last_is kind (take n xs) → Now n xs ys l → Told n xs ys true (if (last_is kind (take n xs)) (Some l) None)
     unfolding told if
-    told_now ys e w = record { size = w.size; same = rw (sym e) (ap (λ (m : List ℕ). some m) w.same) }
+    told_now ys e w = record { size = w.size; same = rw (sym e) (ap (λ (m : List ℕ). Some m) w.same) }
 
   -- a branch more
   module _ (way a : ℕ) where
@@ -141,7 +141,7 @@ module _ (n m w g : ℕ) (s b : List ℕ) (rs : n ≤ length s) (rb : m ≤ leng
               rw (sym eg)
               (rw (le-leb g 0xEFFF_FFFC small)
               (rw (long m b rb)
-              (rw (le-leb (m + 4) (length b) (omega arith)) (ap₂ (λ (x y : List ℕ). some (x, y)) q.same p.same))));
+              (rw (le-leb (m + 4) (length b) (omega arith)) (ap₂ (λ (x y : List ℕ). Some (x, y)) q.same p.same))));
         }
 
 -- room for the later bytes

@@ -1,11 +1,12 @@
 -- Lines of each kind, and lines that are none: computed.
 use mathlib.Core.Path.{◌≡◌, refl}
 use mathlib.Core.List.{[], ◌∷◌, ◌++◌, map}
-use mathlib.Core.Option.{none, some}
+use Rattle.std.specs.Prelude.{None, Some}
 use lib.ListN.{replicate}
 use Rattle.rules.specs.Choice.{if}
 use Rattle.rules.specs.Text.{bytes}
-use Rattle.reading.specs.Frames.{section, word, code_word, target, table, branch, function, object, skip, entry, digit_value, number, tagged, read_frame}
+use Rattle.reading.specs.Frames.{number, tagged, read_frame}
+use Rattle.reading.specs.declared.line.Frame.TheVariants.{Section as section, Word as word, CodeWord as code_word, Target as target, Table as table, Branch as branch, Function as function, Object as object, Skip as skip, Entry as entry}
 
 -- one of each kind, with digits of either case
 frames_read :
@@ -21,18 +22,18 @@ frames_read :
     bytes "07000020000000001000" ∷
     bytes "080000100000001004" ∷
     bytes "0900001000" ∷ [])
-    ≡ some (section 1 0x1000 8) ∷
-    some (section 4 0xABCDEF 0x12345678) ∷
-    some (word 0x4E800020) ∷
-    some (code_word 0x4E800020 3 1) ∷
-    some (target 0x100C) ∷
-    some (table 0x1000 12) ∷
-    some (branch 1 2 0xFFFFFFFF) ∷
-    some (function 0x1000 8 1) ∷
-    some (object 0x2000 0x10 0) ∷
-    some (skip 0x1000 0x1004) ∷
-    some (entry 0x1000) ∷ []
-unfolding if digit_value number tagged read_frame
+    ≡ Some (section 1 0x1000 8) ∷
+    Some (section 4 0xABCDEF 0x12345678) ∷
+    Some (word 0x4E800020) ∷
+    Some (code_word 0x4E800020 3 1) ∷
+    Some (target 0x100C) ∷
+    Some (table 0x1000 12) ∷
+    Some (branch 1 2 0xFFFFFFFF) ∷
+    Some (function 0x1000 8 1) ∷
+    Some (object 0x2000 0x10 0) ∷
+    Some (skip 0x1000 0x1004) ∷
+    Some (entry 0x1000) ∷ []
+unfolding if number tagged read_frame
 frames_read = refl
 
 -- no frame: too few digits or too many, spaces, a carriage return, a byte that is no digit, another number at the beginning
@@ -54,8 +55,8 @@ no_frames :
     bytes "0900001`00" ∷
     bytes "0a00001000" ∷
     bytes "0000001000" ∷ [])
-    ≡ replicate 16 none
-unfolding if digit_value number tagged read_frame
+    ≡ replicate 16 None
+unfolding if number tagged read_frame
 no_frames = refl
 
 -- no frame: a byte outside its range
@@ -69,6 +70,6 @@ no_such_numbers :
     bytes "05000300001000" ∷
     bytes "06000010000000000802" ∷
     bytes "07000010000000000802" ∷ [])
-    ≡ replicate 8 none
-unfolding if digit_value number tagged read_frame
+    ≡ replicate 8 None
+unfolding if number tagged read_frame
 no_such_numbers = refl

@@ -1,14 +1,15 @@
 -- Numbers put behind the first n, one row after another, and what comes of adding a row.
-use mathlib.Core.Path.{◌≡◌, refl, sym, ap, ◌∙◌}
-use mathlib.Core.List.{List, [], ◌∷◌, ◌++◌, append_assoc, append-nil}
+use mathlib.Core.Path.{◌≡◌, refl, ap, ◌∙◌}
+use mathlib.Core.List.{List, [], ◌∷◌, ◌++◌, append_assoc}
 use mathlib.Core.Bool.{true, false}
-use mathlib.Core.Option.{some}
+use Rattle.std.specs.Prelude.{Some}
 use Prim.Native.Nat.{ℕ, ◌+◌, ◌-◌, ◌<◌, ◌≤◌}
 use native.Mathlib.Numerals.{add-one}
-use native.Mathlib.Nat.{add-zero}
 use native.Mathlib.Omega.{arith}
-use lib.ListN.{length, take, get_or, set, length-append, length-set}
-use lib.Seq.{take-suc, take-suc-set, length-take-le}
+use lib.ListN.{length, take, set, length-append, length-drop, length-set}
+use lib.Seq.{take-suc-set, length-take-le}
+use borrow.Rule.Slice.PartMut.{put_mid}
+use Rattle.std.proofs.lemmas.Slice.{take-put_mid}
 use borrow.Author.Tests.{lt-ltb, le-ltb, le-leb, lt-leb}
 use Rattle.rules.specs.Choice.{if}
 use Rattle.reading.specs.Rows.{add_row, counted, Put, Added}
@@ -30,19 +31,13 @@ put_both n m r s xs ys zs em p q =
           ∙ append_assoc (take n xs) r s;
     }
 
--- the first numbers of a row, one after the other
-pub put_start : (n : ℕ) (row xs : List ℕ) → Put n (take 0 row) xs xs
-put_start n row xs = record { size = refl; same = rw (add-zero n) (sym (append-nil (take n xs))) }
-
-module _ (n i : ℕ) (row xs ys : List ℕ) (within : i < length row) (p : Put n (take i row) xs ys) where
-  at_next : n + i ≡ n + length (take i row)
-  at_next = ap (λ (j : ℕ). n + j) (sym (length-take-le i row (omega arith)))
-
-  pub put_next : n + i < length xs → Put n (take (i + 1) row) xs (set ys (n + i) (get_or row i 0))
-  put_next room =
-      let v : ℕ = get_or row i 0 in
-      let q : Put (n + i) (v ∷ []) ys (set ys (n + i) v) = put_one (n + i) v ys (omega (arith, p.size)) in
-      rw (add-one, take-suc row i 0 within) (put_both n (n + i) (take i row) (v ∷ []) xs ys (set ys (n + i) v) at_next p q)
+-- a row, all at once
+pub put_row : (n k : ℕ) (row xs ys : List ℕ) → ys ≡ row → k ≡ length row → n + k ≤ length xs → Put n row xs (put_mid n k xs ys)
+put_row n k row xs ys w e h =
+    rw w (record {
+      size = simp (length-append, length-drop) (omega (arith, e, length-take-le n xs (omega arith)));
+      same = take-put_mid n k xs row (n + length row) refl (omega arith);
+    })
 
 module _ (limit n : ℕ) (row xs : List ℕ) (room : n ≤ length xs) where
   long : length (take n xs) ≡ n
@@ -72,5 +67,5 @@ module _ (limit n : ℕ) (row xs : List ℕ) (room : n ≤ length xs) where
               rw long
               (rw (le-ltb limit n le)
               (rw (le-leb (n + length row) (length xs) (omega arith))
-              (ap (λ (l : List ℕ). some l) (ap (λ (i : ℕ). take (n + i) ys) ew ∙ p.same))));
+              (ap (λ (l : List ℕ). Some l) (ap (λ (i : ℕ). take (n + i) ys) ew ∙ p.same))));
         }

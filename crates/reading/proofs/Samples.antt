@@ -1,20 +1,20 @@
 -- Frames put one after the other, with the lists that they come to: computed.
 use mathlib.Core.Path.{◌≡◌, refl}
 use mathlib.Core.List.{List, [], ◌∷◌}
-use mathlib.Core.Option.{Option, none, some}
+use Rattle.std.specs.Prelude.{Option, None, Some}
 use Prim.Native.Nat.{ℕ}
 use Rattle.rules.specs.Choice.{if}
 use Rattle.rules.specs.Text.{bytes}
 use Rattle.obj_image.specs.Lent.{Lent, lent}
-use Rattle.reading.specs.Frames.{digit_value, number, tagged, read_frame}
+use Rattle.reading.specs.Frames.{number, tagged, read_frame}
 use Rattle.reading.specs.Rows.{add_row}
 use Rattle.reading.specs.LastRows.{back, set_back, last_kind, add_word, last_is}
 use Rattle.reading.specs.PutFrame.{onward, put_frame, put_line}
 
 -- one line more, if all before were frames
 abbrev put_next : List ℕ → Option Lent → Option Lent
-put_next x none = none
-put_next x (some l) =
+put_next x None = None
+put_next x (Some l) =
     put_line record { sections = 36; bytes = 4096; outcomes = 6144; functions = 3075; objects = 3075; skips = 130; entry = 2 } (read_frame x) l
 
 -- the lines of a text, one after the other
@@ -41,8 +41,8 @@ lists_read :
     bytes "0900001000" ∷
     bytes "0900001004" ∷
     bytes "0900001000" ∷ [])
-    (some empty)
-    ≡ some
+    (Some empty)
+    ≡ Some
     (lent
     (1 ∷ 0x1000 ∷ 8 ∷ 8 ∷ 2 ∷ 0x2000 ∷ 4 ∷ 4 ∷ [])
     (0x48 ∷ 0 ∷ 0 ∷ 8 ∷ 0x48 ∷ 0 ∷ 0 ∷ 12 ∷ 0 ∷ 0 ∷ 0x10 ∷ 0 ∷ [])
@@ -51,15 +51,15 @@ lists_read :
     []
     (0x1000 ∷ 0x1004 ∷ [])
     (0x1000 ∷ 0x1004 ∷ []))
-unfolding if digit_value number tagged read_frame add_row back set_back last_kind add_word last_is onward put_frame put_line
+unfolding if number tagged read_frame add_row back set_back last_kind add_word last_is onward put_frame put_line
 lists_read = refl
 
 -- a word before any section, a data word in code, a code word in data, a target without its word, and one of another outcome
 nothing_read :
-    (put_lines (bytes "0200001000" ∷ []) (some empty) ≡ none) ×
-    (put_lines (bytes "01010000100000000008" ∷ bytes "0200001000" ∷ []) (some empty) ≡ none) ×
-    (put_lines (bytes "01020000100000000008" ∷ bytes "02000010000300" ∷ []) (some empty) ≡ none) ×
-    (put_lines (bytes "01010000100000000008" ∷ bytes "0300001000" ∷ []) (some empty) ≡ none) ×
-    (put_lines (bytes "01010000100000000008" ∷ bytes "02480000080600" ∷ bytes "0300001000" ∷ []) (some empty) ≡ none)
-unfolding if digit_value number tagged read_frame add_row back set_back last_kind add_word last_is onward put_frame put_line
+    (put_lines (bytes "0200001000" ∷ []) (Some empty) ≡ None) ×
+    (put_lines (bytes "01010000100000000008" ∷ bytes "0200001000" ∷ []) (Some empty) ≡ None) ×
+    (put_lines (bytes "01020000100000000008" ∷ bytes "02000010000300" ∷ []) (Some empty) ≡ None) ×
+    (put_lines (bytes "01010000100000000008" ∷ bytes "0300001000" ∷ []) (Some empty) ≡ None) ×
+    (put_lines (bytes "01010000100000000008" ∷ bytes "02480000080600" ∷ bytes "0300001000" ∷ []) (Some empty) ≡ None)
+unfolding if number tagged read_frame add_row back set_back last_kind add_word last_is onward put_frame put_line
 nothing_read = (refl, refl, refl, refl, refl)

@@ -2,28 +2,27 @@
 use mathlib.Core.Path.{◌≡◌, refl, sym, ap, ◌∙◌}
 use mathlib.Core.List.{List, [], ◌∷◌}
 use mathlib.Core.Bool.{Bool, true, false}
-use mathlib.Core.Option.{Option, none, some}
+use Rattle.std.specs.Prelude.{Option, None, Some}
 use Prim.Native.Nat.{ℕ, ◌+◌, ◌-◌, ◌≤◌}
 use native.Mathlib.Omega.{arith}
 use lib.ListN.{length, take, drop, drop_of_length-le}
 use Rattle.rules.specs.Choice.{if}
 use Rattle.obj_image.specs.Lent.{Lent}
 use Rattle.reading.specs.Frames.{read_frame}
-use Rattle.reading.specs.Struct.{frame_of}
 use Rattle.reading.specs.declared.line.Frame.{Frame}
 use Rattle.reading.specs.PutFrame.{Room, put_line}
-use Rattle.reading.specs.View.{lists, view, room, FramePut}
+use Rattle.reading.specs.View.{lists, view, room, Fit, FramePut}
 use Rattle.reading.specs.declared.state.Reading.{Reading}
 use Rattle.reading.specs.Texts.{lines_of, put_next, put_lines, read_text, Ends, Kept, LinePut, TextRead}
 
 -- ---- one line
 
-next_of : (m : Room) (x : List ℕ) (b : Bool) (l : Lent) → if b (put_line m (read_frame x) l) none ≡ put_next m x (if b (some l) none)
+next_of : (m : Room) (x : List ℕ) (b : Bool) (l : Lent) → if b (put_line m (read_frame x) l) None ≡ put_next m x (if b (Some l) None)
 unfolding if
 next_of m x true l = refl
 next_of m x false l = refl
 
-pub line_put : (x : List ℕ) (a : Frame) (q r : Reading) (s s' b b' o o' f f' j j' k k' e e' : List ℕ) → frame_of a ≡ read_frame x → FramePut a q r s s' b b' o o' f f' j j' k k' e e' → LinePut x q r s s' b b' o o' f f' j j' k k' e e'
+pub line_put : (x : List ℕ) (a : Frame) (q r : Reading) (s s' b b' o o' f f' j j' k k' e e' : List ℕ) → Some a ≡ read_frame x → FramePut a q r s s' b b' o o' f f' j j' k k' e e' → LinePut x q r s s' b b' o o' f f' j j' k k' e e'
 unfolding view
 line_put x a q r s s' b b' o o' f f' j j' k k' e e' h p =
     record {
@@ -39,14 +38,39 @@ line_put x a q r s s' b b' o o' f f' j j' k k' e e' h p =
             fit = p.fit;
           };
       same =
-          p.same ∙ ap (λ (y : Option _). if q.ok (put_line (room s b o f j k e) y (lists q s b o f j k e)) none) h
+          p.same ∙ ap (λ (y : Option _). if q.ok (put_line (room s b o f j k e) y (lists q s b o f j k e)) None) h
           ∙ next_of (room s b o f j k e) x q.ok (lists q s b o f j k e);
+    }
+
+next_none : (m : Room) (x : List ℕ) (b : Bool) (l : Lent) → None ≡ read_frame x → None ≡ put_next m x (if b (Some l) None)
+unfolding put_line if
+next_none m x true l h = rw (sym h) refl
+next_none m x false l h = refl
+
+-- a line that is no frame
+pub line_none : (x : List ℕ) (q : Reading) (s b o f j k e : List ℕ) → None ≡ read_frame x → Fit q s b o f j k e → LinePut x q record { ok = false; sections = q.sections; bytes = q.bytes; outcomes = q.outcomes; functions = q.functions; objects = q.objects; skips = q.skips; entry = q.entry } s s b b o o f f j j k k e e
+unfolding view if
+line_none x q s b o f j k e h w =
+    record {
+      kept =
+          record {
+            size_s = refl;
+            size_b = refl;
+            size_o = refl;
+            size_f = refl;
+            size_j = refl;
+            size_k = refl;
+            size_e = refl;
+            fit =
+                record { within_s = w.within_s; within_b = w.within_b; within_o = w.within_o; within_f = w.within_f; within_j = w.within_j; within_k = w.within_k; within_e = w.within_e };
+          };
+      same = next_none (room s b o f j k e) x q.ok (lists q s b o f j k e) h;
     }
 
 -- ---- all lines
 
 -- nothing comes of lines behind one that is no frame
-stopped : (m : Room) (xs : List (List ℕ)) → put_lines m xs none ≡ none
+stopped : (m : Room) (xs : List (List ℕ)) → put_lines m xs None ≡ None
 stopped m [] = refl
 stopped m (x ∷ xs) = stopped m xs
 
@@ -117,7 +141,7 @@ module _ (t : List ℕ) (at : ℕ) (q : Reading) (s s₁ b b₁ o o₁ f f₁ j 
     pub going_stops : r.ok ≡ false → TextRead t r s s₂ b b₂ o o₂ f f₂ j j₂ k k₂ e e₂
     unfolding view if
     going_stops no_more =
-        let none_left : view r s₂ b₂ o₂ f₂ j₂ k₂ e₂ ≡ none = rw no_more refl in
+        let none_left : view r s₂ b₂ o₂ f₂ j₂ k₂ e₂ ≡ None = rw no_more refl in
         record {
           kept = both;
           same =

@@ -11,47 +11,14 @@
 --   07 aaaaaaaa ssssssss kk   an object symbol
 --   08 aaaaaaaa bbbbbbbb      a skip range: first address, first address past it
 --   09 aaaaaaaa               the entry point
-use Rattle.std.specs.Prelude.{ℕ, ◌+◌, ◌*◌, ◌-◌, ◌%◌, Bool, ◌&&◌, List, [], ◌∷◌, ltb, leb, eqb, length, take, drop}
-use Rattle.std.proofs.Math.Option.{Option, none, some}
+use Rattle.std.specs.Prelude.{ℕ, ◌&&◌, List, leb, eqb, length, take, drop}
+use Rattle.std.specs.Prelude.{Option, None, Some}
 use Rattle.rules.specs.Choice.{if}
-use Rattle.rules.specs.Check.{all}
-
--- one frame
-pub data Frame : Type 0 where
-  section : ℕ → ℕ → ℕ → Frame
-  word : ℕ → Frame
-  code_word : ℕ → ℕ → ℕ → Frame
-  target : ℕ → Frame
-  table : ℕ → ℕ → Frame
-  branch : ℕ → ℕ → ℕ → Frame
-  function : ℕ → ℕ → ℕ → Frame
-  object : ℕ → ℕ → ℕ → Frame
-  skip : ℕ → ℕ → Frame
-  entry : ℕ → Frame
-
--- ---- digits
-
--- what a digit stands for, by its code: 0 to 9, A to F, a to f; 16 for a byte that is no digit
-unfoldable pub digit_value : ℕ → ℕ
-digit_value b =
-    if (ltb b 48) 16
-    (if (leb b 57) (b - 48)
-    (if (ltb b 65) 16
-    (if (leb b 70) (b - 55)
-    (if (ltb b 97) 16
-    (if (leb b 102) (b - 87) 16)))))
-
-abbrev pub is_digit : ℕ → Bool
-is_digit b = ltb (digit_value b) 16
-
--- a number with more digits behind it
-abbrev pub hex_on : ℕ → List ℕ → ℕ
-hex_on v [] = v
-hex_on v (b ∷ l) = hex_on (v * 16 + digit_value b % 16) l
-
--- the number that digits stand for
-abbrev pub hex_value : List ℕ → ℕ
-hex_value l = hex_on 0 l
+use Rattle.std.specs.List.{list_all}
+use Rattle.reading.specs.Digits.{is_digit, hex_value}
+use Rattle.reading.specs.declared.line.Frame.{Frame}
+use Rattle.reading.specs.declared.line.Frame.TheVariants.{Section as section, Word as word, CodeWord as code_word, Target as target, Table as table}
+use Rattle.reading.specs.declared.line.Frame.TheVariants.{Branch as branch, Function as function, Object as object, Skip as skip, Entry as entry}
 
 -- the number that n digits of a line stand for, from a place on
 unfoldable pub number : List ℕ → ℕ → ℕ → ℕ
@@ -62,43 +29,43 @@ number l from n = hex_value (take n (drop from l))
 abbrev pub section_line : List ℕ → Option Frame
 section_line l =
     if (eqb (length l) 20 && leb 1 (number l 2 2) && leb (number l 2 2) 4)
-    (some (section (number l 2 2) (number l 4 8) (number l 12 8)))
-    none
+    (Some (section (number l 2 2) (number l 4 8) (number l 12 8)))
+    None
 
 abbrev pub code_word_line : List ℕ → Option Frame
 code_word_line l =
     if (eqb (length l) 14 && leb (number l 10 2) 6 && leb (number l 12 2) 1)
-    (some (code_word (number l 2 8) (number l 10 2) (number l 12 2)))
-    none
+    (Some (code_word (number l 2 8) (number l 10 2) (number l 12 2)))
+    None
 
 abbrev pub word_line : List ℕ → Option Frame
-word_line l = if (eqb (length l) 10) (some (word (number l 2 8))) (code_word_line l)
+word_line l = if (eqb (length l) 10) (Some (word (number l 2 8))) (code_word_line l)
 
 abbrev pub target_line : List ℕ → Option Frame
-target_line l = if (eqb (length l) 10) (some (target (number l 2 8))) none
+target_line l = if (eqb (length l) 10) (Some (target (number l 2 8))) None
 
 abbrev pub table_line : List ℕ → Option Frame
-table_line l = if (eqb (length l) 18) (some (table (number l 2 8) (number l 10 8))) none
+table_line l = if (eqb (length l) 18) (Some (table (number l 2 8) (number l 10 8))) None
 
 abbrev pub branch_line : List ℕ → Option Frame
 branch_line l =
     if (eqb (length l) 14 && leb (number l 2 2) 1 && leb (number l 4 2) 2)
-    (some (branch (number l 2 2) (number l 4 2) (number l 6 8)))
-    none
+    (Some (branch (number l 2 2) (number l 4 2) (number l 6 8)))
+    None
 
 abbrev pub function_line : List ℕ → Option Frame
 function_line l =
-    if (eqb (length l) 20 && leb (number l 18 2) 1) (some (function (number l 2 8) (number l 10 8) (number l 18 2))) none
+    if (eqb (length l) 20 && leb (number l 18 2) 1) (Some (function (number l 2 8) (number l 10 8) (number l 18 2))) None
 
 abbrev pub object_line : List ℕ → Option Frame
 object_line l =
-    if (eqb (length l) 20 && leb (number l 18 2) 1) (some (object (number l 2 8) (number l 10 8) (number l 18 2))) none
+    if (eqb (length l) 20 && leb (number l 18 2) 1) (Some (object (number l 2 8) (number l 10 8) (number l 18 2))) None
 
 abbrev pub skip_line : List ℕ → Option Frame
-skip_line l = if (eqb (length l) 18) (some (skip (number l 2 8) (number l 10 8))) none
+skip_line l = if (eqb (length l) 18) (Some (skip (number l 2 8) (number l 10 8))) None
 
 abbrev pub entry_line : List ℕ → Option Frame
-entry_line l = if (eqb (length l) 10) (some (entry (number l 2 8))) none
+entry_line l = if (eqb (length l) 10) (Some (entry (number l 2 8))) None
 
 -- ---- a line
 
@@ -113,8 +80,8 @@ tagged t l =
     (if (eqb t 6) (function_line l)
     (if (eqb t 7) (object_line l)
     (if (eqb t 8) (skip_line l)
-    (if (eqb t 9) (entry_line l) none))))))))
+    (if (eqb t 9) (entry_line l) None))))))))
 
 -- the frame that a line without its newline is, if it is one
 unfoldable pub read_frame : List ℕ → Option Frame
-read_frame l = if (leb 2 (length l) && all is_digit l) (tagged (number l 0 2) l) none
+read_frame l = if (leb 2 (length l) && list_all is_digit l) (tagged (number l 0 2) l) None

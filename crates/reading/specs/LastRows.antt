@@ -1,7 +1,7 @@
 -- What a frame changes in the last row of a list: the bytes given of the last section, and what the last code word does. A list stands
 -- in the first numbers of a lent one.
 use Rattle.std.specs.Prelude.{◌≡◌, Bool, ◌&&◌, List, [], ◌∷◌, ◌++◌, ℕ, ◌+◌, ◌*◌, ◌-◌, ◌/◌, ◌%◌, ◌≤◌, leb, eqb, length, take, get_or, set}
-use Rattle.std.proofs.Math.Option.{Option, none, some}
+use Rattle.std.specs.Prelude.{Option, None, Some}
 use Rattle.rules.specs.Choice.{if}
 use Rattle.reading.specs.declared.rows.Count.{Count}
 
@@ -31,8 +31,8 @@ word_bytes w = w / 0x100_0000 ∷ w / 0x1_0000 % 256 ∷ w / 256 % 256 ∷ w % 2
 unfoldable pub add_word : ℕ → ℕ → List ℕ → List ℕ → Option (List ℕ × List ℕ)
 add_word room w s b =
     if (leb (back s 1) 0xEFFF_FFFC && leb (length b + 4) room)
-    (some (set_back s 1 (back s 1 + 4), b ++ word_bytes w))
-    none
+    (Some (set_back s 1 (back s 1 + 4), b ++ word_bytes w))
+    None
 
 -- four bytes behind the first n
 pub record PutWord (n w : ℕ) (xs ys : List ℕ) : Type 0 where
@@ -41,7 +41,7 @@ pub record PutWord (n w : ℕ) (xs ys : List ℕ) : Type 0 where
 
 -- the sections and the bytes, if there was room
 unfoldable pub both : Count → List ℕ → List ℕ → Option (List ℕ × List ℕ)
-both c s b = if c.ok (some (s, take c.count b)) none
+both c s b = if c.ok (Some (s, take c.count b)) None
 
 pub record WordAdded (n m w : ℕ) (s s' b b' : List ℕ) (r : Count) : Type 0 where
   pub sections : length s' ≡ length s
@@ -57,11 +57,11 @@ last_is k o = leb 6 (length o) && eqb (back o 6) k
 
 -- where it jumps to
 abbrev pub set_target : ℕ → List ℕ → Option (List ℕ)
-set_target a o = if (last_is 4 o) (some (set_back o 4 a)) none
+set_target a o = if (last_is 4 o) (Some (set_back o 4 a)) None
 
 -- its jump table
 abbrev pub set_table : ℕ → ℕ → List ℕ → Option (List ℕ)
-set_table a s o = if (last_is 5 o) (some (set_back (set_back o 4 a) 3 s)) none
+set_table a s o = if (last_is 5 o) (Some (set_back (set_back o 4 a) 3 s)) None
 
 -- one branch more; with a third the row breaks its rule: a way that is none
 abbrev pub with_branch : ℕ → ℕ → List ℕ → List ℕ
@@ -73,11 +73,11 @@ abbrev pub way_of : ℕ → ℕ → ℕ
 way_of link to = link * 4 + to + 1
 
 abbrev pub add_branch : ℕ → ℕ → ℕ → List ℕ → Option (List ℕ)
-add_branch link to a o = if (last_is 6 o) (some (with_branch (way_of link to) a o)) none
+add_branch link to a o = if (last_is 6 o) (Some (with_branch (way_of link to) a o)) None
 
 -- the list, if the frame belongs to it
 unfoldable pub told : Bool → List ℕ → Option (List ℕ)
-told t o = if t (some o) none
+told t o = if t (Some o) None
 
 pub record Told (n : ℕ) (xs ys : List ℕ) (r : Bool) (o : Option (List ℕ)) : Type 0 where
   pub size : length ys ≡ length xs

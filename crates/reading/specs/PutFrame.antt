@@ -5,10 +5,12 @@
 -- way one that there is none of (2); a second entry point makes a list of two (3). A list that is longer than its rule allows stays as it
 -- is, since its answer is known.
 use Rattle.std.specs.Prelude.{ℕ, List, [], ◌∷◌, leb, eqb, length}
-use Rattle.std.proofs.Math.Option.{Option, none, some}
+use Rattle.std.specs.Prelude.{Option, None, Some}
 use Rattle.rules.specs.Choice.{if}
 use Rattle.obj_image.specs.Lent.{Lent, lent}
-use Rattle.reading.specs.Frames.{Frame, section, word, code_word, target, table, branch, function, object, skip, entry}
+use Rattle.reading.specs.declared.line.Frame.{Frame}
+use Rattle.reading.specs.declared.line.Frame.TheVariants.{Section as section, Word as word, CodeWord as code_word, Target as target, Table as table}
+use Rattle.reading.specs.declared.line.Frame.TheVariants.{Branch as branch, Function as function, Object as object, Skip as skip, Entry as entry}
 use Rattle.reading.specs.Rows.{add_row}
 use Rattle.reading.specs.LastRows.{last_kind, add_word, set_target, set_table, add_branch}
 
@@ -24,8 +26,8 @@ pub record Room : Type 0 where
 
 -- what comes of a result, if there is one
 unfoldable pub onward : {A B : Type 0} → (A → B) → Option A → Option B
-onward f none = none
-onward f (some a) = some (f a)
+onward f None = None
+onward f (Some a) = Some (f a)
 
 -- another list in the place of one
 module _ (l : Lent) where
@@ -53,15 +55,15 @@ module _ (l : Lent) where
 -- a word of a section of this kind, 1 code, 2 another
 abbrev pub put_word : Room → ℕ → ℕ → Lent → Option Lent
 put_word m kind w l =
-    if (eqb (last_kind l.sections) kind) (onward (in_both l) (add_word m.bytes w l.sections l.bytes)) none
+    if (eqb (last_kind l.sections) kind) (onward (in_both l) (add_word m.bytes w l.sections l.bytes)) None
 
 -- an outcome, after its word; "Code is at most 1,024 words here"
 abbrev pub put_outcome : Room → ℕ → ℕ → Option Lent → Option Lent
-put_outcome m kind mark none = none
-put_outcome m kind mark (some l) =
+put_outcome m kind mark None = None
+put_outcome m kind mark (Some l) =
     if (leb (length l.outcomes) 6138)
     (onward (in_outcomes l) (add_row 6138 m.outcomes (kind ∷ mark ∷ 0 ∷ 0 ∷ 0 ∷ 0 ∷ []) l.outcomes))
-    none
+    None
 
 unfoldable pub put_frame : Room → Frame → Lent → Option Lent
 put_frame m (section k b s) l = onward (in_sections l) (add_row 32 m.sections (k ∷ b ∷ s ∷ 0 ∷ []) l.sections)
@@ -77,5 +79,5 @@ put_frame m (entry a) l = onward (in_entry l) (add_row 1 m.entry (a ∷ []) l.en
 
 -- of a line that is perhaps no frame
 unfoldable pub put_line : Room → Option Frame → Lent → Option Lent
-put_line m none l = none
-put_line m (some f) l = put_frame m f l
+put_line m None l = None
+put_line m (Some f) l = put_frame m f l

@@ -1,17 +1,17 @@
 -- Rows put at the end of a list that stands in the first numbers of a lent one.
 use Rattle.std.specs.Prelude.{◌≡◌, List, ◌++◌, ℕ, ◌+◌, ◌≤◌, ltb, leb, length, take}
-use Rattle.std.proofs.Math.Option.{Option, none, some}
+use Rattle.std.specs.Prelude.{Option, None, Some}
 use Rattle.rules.specs.Choice.{if}
 use Rattle.reading.specs.declared.rows.Count.{Count}
 
 -- A row more. A list that is longer than its limit already breaks its rule, and stays as it is; where there is no room, there is none.
 unfoldable pub add_row : ℕ → ℕ → List ℕ → List ℕ → Option (List ℕ)
 add_row limit room row l =
-    if (ltb limit (length l)) (some l) (if (leb (length l + length row) room) (some (l ++ row)) none)
+    if (ltb limit (length l)) (Some l) (if (leb (length l + length row) room) (Some (l ++ row)) None)
 
 -- the list that stands in the first numbers of a lent one, if there is one
 unfoldable pub counted : Count → List ℕ → Option (List ℕ)
-counted c xs = if c.ok (some (take c.count xs)) none
+counted c xs = if c.ok (Some (take c.count xs)) None
 
 -- numbers behind the first n
 pub record Put (n : ℕ) (row xs ys : List ℕ) : Type 0 where

@@ -1,6 +1,6 @@
 -- A text of frames, one to a line, read into the lists that stand for an image.
 use Rattle.std.specs.Prelude.{◌≡◌, List, [], ◌∷◌, ℕ, ◌+◌, ◌-◌, ◌≤◌, eqb, length, take, drop}
-use Rattle.std.proofs.Math.Option.{Option, none, some}
+use Rattle.std.specs.Prelude.{Option, None, Some}
 use Rattle.rules.specs.Choice.{if}
 use Rattle.obj_image.specs.Lent.{Lent, lent}
 use Rattle.reading.specs.Frames.{read_frame}
@@ -20,8 +20,8 @@ lines_of (b ∷ t) = let rest : List (List ℕ) = lines_of t in if (eqb b 10) ([
 
 -- one line more, if all before were frames
 abbrev pub put_next : Room → List ℕ → Option Lent → Option Lent
-put_next m x none = none
-put_next m x (some l) = put_line m (read_frame x) l
+put_next m x None = None
+put_next m x (Some l) = put_line m (read_frame x) l
 
 -- lines one after the other
 abbrev pub put_lines : Room → List (List ℕ) → Option Lent → Option Lent
@@ -30,7 +30,7 @@ put_lines m (x ∷ xs) l = put_lines m xs (put_next m x l)
 
 -- the lists that the lines of a text come to, if each is a frame where it stands
 unfoldable pub read_text : Room → List ℕ → Option Lent
-read_text m t = put_lines m (lines_of t) (some (lent [] [] [] [] [] [] []))
+read_text m t = put_lines m (lines_of t) (Some (lent [] [] [] [] [] [] []))
 
 -- the line that begins at a place of the text ends at r, and the next begins behind that
 pub record Ends (t : List ℕ) (from r : ℕ) : Type 0 where

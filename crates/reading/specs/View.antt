@@ -1,10 +1,9 @@
 -- The lists that stand in the first numbers of the lent ones.
-use Rattle.std.specs.Prelude.{◌≡◌, Bool, true, false, List, ℕ, ◌<◌, ◌≤◌, length, take}
-use Rattle.std.proofs.Math.Option.{Option, none, some}
+use Rattle.std.specs.Prelude.{◌≡◌, List, ℕ, ◌≤◌, length, take}
+use Rattle.std.specs.Prelude.{Option, None, Some}
 use Rattle.rules.specs.Choice.{if}
 use Rattle.obj_image.specs.Lent.{Lent, lent}
 use Rattle.reading.specs.declared.line.Frame.{Frame}
-use Rattle.reading.specs.Struct.{frame_of}
 use Rattle.reading.specs.PutFrame.{Room, put_word, put_line}
 use Rattle.reading.specs.declared.state.Reading.{Reading}
 
@@ -15,7 +14,7 @@ lists r s b o f j k e =
 
 -- the lists, if every line was a frame
 unfoldable pub view : Reading → List ℕ → List ℕ → List ℕ → List ℕ → List ℕ → List ℕ → List ℕ → Option Lent
-view r s b o f j k e = if r.ok (some (lists r s b o f j k e)) none
+view r s b o f j k e = if r.ok (Some (lists r s b o f j k e)) None
 
 abbrev pub room : List ℕ → List ℕ → List ℕ → List ℕ → List ℕ → List ℕ → List ℕ → Room
 room s b o f j k e =
@@ -42,7 +41,7 @@ pub record GivenPut (x : Frame) (r q : Reading) (f f' j j' k k' e e' : List ℕ)
   pub sections : q.sections ≡ r.sections
   pub bytes : q.bytes ≡ r.bytes
   pub outcomes : q.outcomes ≡ r.outcomes
-  pub same : (s b o : List ℕ) → view q s b o f' j' k' e' ≡ put_line (room s b o f j k e) (frame_of x) (lists r s b o f j k e)
+  pub same : (s b o : List ℕ) → view q s b o f' j' k' e' ≡ put_line (room s b o f j k e) (Some x) (lists r s b o f j k e)
 
 -- a word put into the last section
 pub record WordPut (kind w : ℕ) (r q : Reading) (s s' b b' : List ℕ) : Type 0 where
@@ -69,7 +68,7 @@ pub record ImagePut (x : Frame) (r q : Reading) (s s' b b' o o' : List ℕ) : Ty
   pub objects : q.objects ≡ r.objects
   pub skips : q.skips ≡ r.skips
   pub entry : q.entry ≡ r.entry
-  pub same : (f j k e : List ℕ) → view q s' b' o' f j k e ≡ put_line (room s b o f j k e) (frame_of x) (lists r s b o f j k e)
+  pub same : (f j k e : List ℕ) → view q s' b' o' f j k e ≡ put_line (room s b o f j k e) (Some x) (lists r s b o f j k e)
 
 -- a frame put into the outcomes; whatever the other lists are, they stay
 pub record ToldPut (x : Frame) (r q : Reading) (o o' : List ℕ) : Type 0 where
@@ -81,7 +80,7 @@ pub record ToldPut (x : Frame) (r q : Reading) (o o' : List ℕ) : Type 0 where
   pub objects : q.objects ≡ r.objects
   pub skips : q.skips ≡ r.skips
   pub entry : q.entry ≡ r.entry
-  pub same : (s b f j k e : List ℕ) → view q s b o' f j k e ≡ put_line (room s b o f j k e) (frame_of x) (lists r s b o f j k e)
+  pub same : (s b f j k e : List ℕ) → view q s b o' f j k e ≡ put_line (room s b o f j k e) (Some x) (lists r s b o f j k e)
 
 -- the counts are within the lent lists
 pub record Fit (r : Reading) (s b o f j k e : List ℕ) : Type 0 where
@@ -93,27 +92,6 @@ pub record Fit (r : Reading) (s b o f j k e : List ℕ) : Type 0 where
   pub within_k : r.skips ≤ length k
   pub within_e : r.entry ≤ length e
 
--- where a frame of this kind belongs while all is well: 1 the image, 2 what is given beside it, 3 a code word; else nowhere
-pub record Parted (t : Bool) (k p : ℕ) : Type 0 where
-  pub image : p ≡ 1 → (t ≡ true) × (1 ≤ k) × (k ≤ 5)
-  pub given : p ≡ 2 → (t ≡ true) × (6 ≤ k) × (k ≤ 9)
-  pub code : p ≡ 3 → (t ≡ true) × (k ≡ 10)
-  pub nowhere : (p ≡ 1 → ⊥) → (p ≡ 2 → ⊥) → (p ≡ 3 → ⊥) → t ≡ true → 1 ≤ k → 10 < k
-
--- the lists are no longer spoken of
-abbrev pub refused : Reading → Reading
-refused r =
-    record {
-      ok = false;
-      sections = r.sections;
-      bytes = r.bytes;
-      outcomes = r.outcomes;
-      functions = r.functions;
-      objects = r.objects;
-      skips = r.skips;
-      entry = r.entry;
-    }
-
 -- a frame put into the lists: what was to be read before is read on, if there was anything
 pub record FramePut (x : Frame) (r q : Reading) (s s' b b' o o' f f' j j' k k' e e' : List ℕ) : Type 0 where
   pub size_s : length s' ≡ length s
@@ -124,4 +102,4 @@ pub record FramePut (x : Frame) (r q : Reading) (s s' b b' o o' f f' j j' k k' e
   pub size_k : length k' ≡ length k
   pub size_e : length e' ≡ length e
   pub fit : Fit q s' b' o' f' j' k' e'
-  pub same : view q s' b' o' f' j' k' e' ≡ if r.ok (put_line (room s b o f j k e) (frame_of x) (lists r s b o f j k e)) none
+  pub same : view q s' b' o' f' j' k' e' ≡ if r.ok (put_line (room s b o f j k e) (Some x) (lists r s b o f j k e)) None

@@ -2,7 +2,6 @@
 // (`put`), and the text cut into lines (`texts`).
 #![tactic(auto)]
 
-pub mod given;
 pub mod image;
 pub mod line;
 pub mod outcomes;

@@ -3,6 +3,16 @@ ghost use Rattle.std.specs.Prelude.{◌≡◌, ◌+◌, ◌≤◌, length, take}
 ghost use Rattle.reading.specs.LastRows.{Told, Now, last_is, set_target, set_table, with_branch, add_branch};
 ghost use Rattle.reading.specs.LastRows as ends;
 
+// The kinds of outcome that frames may say more of (obj_image has them all).
+const JUMP: u32 = 4;
+
+const JUMP_TABLE: u32 = 5;
+
+const BRANCHES: u32 = 6;
+
+// A way of a branch that there is none of.
+const NO_WAY: u32 = 4;
+
 // Whether there is a last code word, and its outcome is of this kind.
 fn last_is(outcomes: &[u32], count: usize, kind: u32) -> bool
     requires { count ≤ length outcomes.now }
@@ -20,7 +30,7 @@ pub fn set_target(outcomes: &mut [u32], count: usize, target: u32) -> bool
     ensures { Told count outcomes.old outcomes.new result
         (set_target target (take count outcomes.old)) }
 {
-    if last_is(outcomes, count, 4) {
+    if last_is(outcomes, count, JUMP) {
         outcomes[count - 4] = target;
         return true;
     }
@@ -33,7 +43,7 @@ pub fn set_table(outcomes: &mut [u32], count: usize, a: u32, size: u32) -> bool
     ensures { Told count outcomes.old outcomes.new result
         (set_table a size (take count outcomes.old)) }
 {
-    if last_is(outcomes, count, 5) {
+    if last_is(outcomes, count, JUMP_TABLE) {
         outcomes[count - 4] = a;
         outcomes[count - 3] = size;
         return true;
@@ -57,7 +67,7 @@ fn with_branch(outcomes: &mut [u32], count: usize, way: u32, a: u32)
         outcomes[count - 1] = a;
         return;
     }
-    outcomes[count - 2] = 4;
+    outcomes[count - 2] = NO_WAY;
 }
 
 // The next branch of the last code word; false where it has no branches.
@@ -66,7 +76,7 @@ pub fn add_branch(outcomes: &mut [u32], count: usize, link: u32, to: u32, a: u32
     ensures { Told count outcomes.old outcomes.new result
         (add_branch link to a (take count outcomes.old)) }
 {
-    if last_is(outcomes, count, 6) {
+    if last_is(outcomes, count, BRANCHES) {
         with_branch(outcomes, count, link * 4 + to + 1, a);
         return true;
     }

@@ -1,43 +1,24 @@
 // One frame put into the lent lists.
-ghost use Rattle.std.specs.Prelude.{◌≡◌, ◌≤◌};
-ghost use Rattle.reading.specs.View.{Fit, FramePut, Parted, refused};
+ghost use Rattle.reading.specs.Kinds.{Ranged};
+ghost use Rattle.reading.specs.View.{Fit, FramePut};
 
-use crate::given::put_given;
-use crate::image::{put_code_word, put_image};
+use crate::image::{OTHER, put_code_word, put_word};
 use crate::line::Frame;
+use crate::outcomes::{add_branch, set_table, set_target};
+use crate::rows::add_row;
 use crate::state::Reading;
 
-// Where a frame of this kind belongs while all is well: 1 the image, 2 what is given beside it, 3 a code word; 0 nowhere.
-fn part(ok: bool, kind: u32) -> u32
-    ensures { Parted ok kind result }
-{
-    if ok {
-        if kind < 1 {
-            return 0;
-        }
-        if kind <= 5 {
-            return 1;
-        }
-        if kind <= 9 {
-            return 2;
-        }
-        if kind == 10 {
-            return 3;
-        }
-        return 0;
-    }
-    0
-}
+// The most numbers that a list has by its rule; add_row takes a row more, which breaks it. There are eight sections, 1,024 symbols of
+// either kind, 64 skip ranges and one entry point.
+const SECTIONS: usize = 32;
 
-fn refused(r: Reading) -> Reading
-    ensures { result ≡ refused r }
-{
-    let mut q = r;
-    q.ok = false;
-    q
-}
+const SYMBOLS: usize = 3072;
 
-// A frame put into the lists. Where it is none, or does not belong there, nothing is said of them any more.
+const SKIPS: usize = 128;
+
+const ENTRIES: usize = 1;
+
+// A frame put into the lists. Where it does not belong there, nothing is said of them any more.
 pub fn put_frame(
     r: Reading,
     sections: &mut [u32; 36],
@@ -49,17 +30,72 @@ pub fn put_frame(
     entry: &mut [u32; 2],
     f: Frame,
 ) -> Reading
-    requires small { f.kind ≡ 5 → (f.first ≤ 1) × (f.second ≤ 2) }
+    requires ranged { Ranged f }
     requires fit { Fit r sections.old bytes.old outcomes.old functions.old objects.old skips.old entry.old }
     ensures { FramePut f r result sections.old sections.new bytes.old bytes.new
         outcomes.old outcomes.new functions.old functions.new
         objects.old objects.new skips.old skips.new entry.old
         entry.new }
 {
-    match part(r.ok, f.kind) {
-        1 => put_image(r, sections, bytes, outcomes, f),
-        2 => put_given(r, functions, objects, skips, entry, f),
-        3 => put_code_word(r, sections, bytes, outcomes, f),
-        _ => refused(r),
+    if !r.ok {
+        return r;
+    }
+    match f {
+        Frame::Section(kind, base, size) => {
+            let c = add_row(sections, r.sections, SECTIONS, &[kind, base, size, 0]);
+            Reading {
+                ok: c.ok,
+                sections: c.count,
+                ..r
+            }
+        }
+        Frame::Word(w) => put_word(r, sections, bytes, w, OTHER),
+        Frame::CodeWord(w, outcome, mark) => {
+            put_code_word(r, sections, bytes, outcomes, w, outcome, mark)
+        }
+        Frame::Target(a) => Reading {
+            ok: set_target(outcomes, r.outcomes, a),
+            ..r
+        },
+        Frame::Table(a, size) => Reading {
+            ok: set_table(outcomes, r.outcomes, a, size),
+            ..r
+        },
+        Frame::Branch(link, to, a) => Reading {
+            ok: add_branch(outcomes, r.outcomes, link, to, a),
+            ..r
+        },
+        Frame::Function(a, size, known) => {
+            let c = add_row(functions, r.functions, SYMBOLS, &[a, size, known]);
+            Reading {
+                ok: c.ok,
+                functions: c.count,
+                ..r
+            }
+        }
+        Frame::Object(a, size, known) => {
+            let c = add_row(objects, r.objects, SYMBOLS, &[a, size, known]);
+            Reading {
+                ok: c.ok,
+                objects: c.count,
+                ..r
+            }
+        }
+        Frame::Skip(first, past) => {
+            let c = add_row(skips, r.skips, SKIPS, &[first, past]);
+            Reading {
+                ok: c.ok,
+                skips: c.count,
+                ..r
+            }
+        }
+        Frame::Entry(a) => {
+            let c = add_row(entry, r.entry, ENTRIES, &[a]);
+            Reading {
+                ok: c.ok,
+                entry: c.count,
+                ..r
+            }
+        }
     }
 }

@@ -2,6 +2,8 @@
 ghost use Rattle.std.specs.Prelude.{◌<◌, length};
 ghost use Rattle.reading.specs.Texts.{Ends, TextRead};
 
+use crate::line::read_frame;
+use crate::put::put_frame;
 use crate::state::Reading;
 
 // Where the line that begins at a place ends: at the next newline, or with the text.
@@ -9,14 +11,12 @@ fn line_end(text: &[u8], from: usize) -> usize
     requires { from < length text.now }
     ensures { Ends text.now from result }
 {
-    let mut i = from;
-    while i < text.len() {
-        if text[i] == 10 {
+    for i in from..text.len() {
+        if text[i] == b'\n' {
             return i;
         }
-        i += 1;
     }
-    i
+    text.len()
 }
 
 // The lines of a text put into the lists one after the other, up to the first that is no frame or does not belong there.
@@ -48,15 +48,18 @@ pub fn read_image(
     let mut at: usize = 0;
     while at < text.len() {
         let end = line_end(text, at);
-        let f = crate::line::read_frame(&text[at..end]);
-        r = crate::put::put_frame(
-            r, sections, bytes, outcomes, functions, objects, skips, entry, f,
-        );
-        if r.ok {
-            at = end + 1;
-        } else {
+        match read_frame(&text[at..end]) {
+            Some(f) => {
+                r = put_frame(
+                    r, sections, bytes, outcomes, functions, objects, skips, entry, f,
+                );
+            }
+            None => return Reading { ok: false, ..r },
+        }
+        if !r.ok {
             return r;
         }
+        at = end + 1;
     }
     r
 }

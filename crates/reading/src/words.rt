@@ -23,10 +23,7 @@ fn put_word(bytes: &mut [u8], count: usize, w: u32)
     requires { count + 4 ≤ length bytes.old }
     ensures { PutWord count w bytes.old bytes.new }
 {
-    bytes[count] = (w / 0x100_0000) as u8;
-    bytes[count + 1] = (w / 0x1_0000 % 256) as u8;
-    bytes[count + 2] = (w / 256 % 256) as u8;
-    bytes[count + 3] = (w % 256) as u8;
+    bytes[count..count + 4].copy_from_slice(&w.to_be_bytes());
 }
 
 // A word more of the last section. Where there is no room, nothing is put.

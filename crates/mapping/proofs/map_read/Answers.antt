@@ -11,5 +11,5 @@ returns-then-q c = read_answered _ _ _ _ _ _ _ _ _ _ _ _ c.if-q.true c.map_lists
 pub put_refusal-requires : goal.put_refusal-requires
 put_refusal-requires c = (omega arith, omega (arith, c.requires.room))
 
-pub returns : goal.returns
-returns c = not_read _ _ _ _ _ _ _ _ _ _ _ _ c.if-q.false c.put_refusal.ensures
+pub returns-else-q : goal.returns-else-q
+returns-else-q c = not_read _ _ _ _ _ _ _ _ _ _ _ _ c.if-q.false c.put_refusal.ensures

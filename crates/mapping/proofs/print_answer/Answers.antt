@@ -11,5 +11,5 @@ returns-then-number-eq0 c = map_shown _ _ _ _ _ _ _ c.if-number-eq0.true c.put_m
 pub put_refusal-requires : goal.put_refusal-requires
 put_refusal-requires c = (number_low _ _ _ _ c.requires.shown c.if-number-eq0.false, omega (arith, c.requires.room))
 
-pub returns : goal.returns
-returns c = refusal_shown _ _ _ _ _ _ _ c.if-number-eq0.false c.put_refusal.ensures
+pub returns-else-number-eq0 : goal.returns-else-number-eq0
+returns-else-number-eq0 c = refusal_shown _ _ _ _ _ _ _ c.if-number-eq0.false c.put_refusal.ensures

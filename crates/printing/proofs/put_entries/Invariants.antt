@@ -1,9 +1,9 @@
+use Rattle.std.proofs.Common.{◌-◌}
+use Rattle.rules.specs.Lines.{text, lines_map}
+use Rattle.results.specs.Rows.{map_of}
 use Rattle.printing.proofs.Maps.{Left}
-use Prim.Native.Nat.{◌-◌}
 use Rattle.printing.proofs.put_entries.Given as goal
 
-abbrev pub invariant-loop-i : goal.invariant-loop-i
-invariant-loop-i l = Left l.count l.rows l.lists l.initial.out l.at l.i l.q l.out l.p
-
-abbrev pub decreases-loop-i : goal.decreases-loop-i
-decreases-loop-i l = l.count - l.i
+abbrev pub invariant-loop : goal.invariant-loop
+invariant-loop l =
+    Left (l.count - l.counter) l.rows l.lists (text (lines_map (map_of l.count l.initial.rows l.initial.lists))) l.initial.out l.at l.out l.p

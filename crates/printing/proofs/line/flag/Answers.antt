@@ -1,9 +1,9 @@
-use mathlib.Core.Path.{sym}
-use Rattle.rules.specs.Choice.{if_true, if_false}
+use Rattle.std.proofs.Common.{◌≡◌, ◌+◌, true, false, refl}
+use mir.Val.{bool_byte}
+use Rattle.rules.specs.Lines.{flag}
+use Rattle.rules.specs.Choice.{if}
 use Rattle.printing.proofs.line.flag.Goals as goal
 
-pub returns-then-b : goal.returns-then-b
-returns-then-b c = sym (if_true c.if-b.true _ _)
-
 pub returns : goal.returns
-returns c = sym (if_false c.if-b.false _ _)
+unfolding if
+returns c = rw c.from.ensures (elim c.args.b as (λ b. 48 + bool_byte b ≡ flag b) [ true ↦ refl | false ↦ refl ])

@@ -1,19 +1,15 @@
-use native.Mathlib.Omega.{arith}
-use Rattle.printing.proofs.Printing.{going_first, going_on, going_ends, room_first}
-use Rattle.printing.proofs.Lines.{rest_next, rest_none}
+use Rattle.std.proofs.lemmas.Slice.Zip.{either_empty_from_Zip}
+use Rattle.printing.proofs.Lines.{lines_first, line_room, lines_next, lines_end}
 use Rattle.printing.proofs.line.put_lines.Goals as goal
 
-pub loop-i-init : goal.loop-i-init
-loop-i-init c = (omega arith, going_first _ _ _ c.requires.room)
+pub loop-first-init : goal.loop-first-init
+loop-first-init c = lines_first _ _ _ _ _ _ _ (cc) (cc) c.requires
 
 pub put_line-p-requires : goal.put_line-p-requires
-put_line-p-requires c = room_first _ _ _ _ (rw (rest_next _ _ _ _ _ c.requires.columns.0 c.requires.columns.1 _ c.loop-i-test.true) at c.loop-i.invariant.1.room)
+put_line-p-requires c = line_room _ c.in-Some.ensures.steps.0 c.in-Some.ensures.steps.1 c.loop-first.invariant
 
-pub loop-i-preserved : goal.loop-i-preserved
-loop-i-preserved c = (omega arith, going_on (rw (rest_next _ _ _ _ _ c.requires.columns.0 c.requires.columns.1 _ c.loop-i-test.true) at c.loop-i.invariant.1) c.put_line-p.ensures)
-
-pub shape_of-out : goal.shape_of-out
-shape_of-out c = c.loop-i.invariant.1.size
+pub loop-first-preserved : goal.loop-first-preserved
+loop-first-preserved c = lines_next _ c.in-Some.ensures.steps.0 c.in-Some.ensures.steps.1 c.loop-first.invariant c.put_line-p.ensures
 
 pub returns : goal.returns
-returns c = going_ends (rw (rest_none _ _ _ _ _ c.requires.columns.0 c.requires.columns.1 _ c.loop-i-test.false) at c.loop-i.invariant.1)
+returns c = lines_end _ _ _ _ _ _ _ _ (either_empty_from_Zip c.loop-first.first-iterator c.next.new.self c.next.result c.in-None.is c.next.ensures.steps) c.loop-first.invariant

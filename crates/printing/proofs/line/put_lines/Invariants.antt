@@ -1,12 +1,9 @@
-use Prim.Native.Nat.{◌-◌, ◌≤◌}
-use lib.ListN.{take, drop}
+use Rattle.std.specs.Iterator.Adapters.{zip_first, zip_second}
+use Rattle.std.specs.Slice.Iter.{iter_rest}
 use Rattle.printing.specs.Columns.{lines}
 use Rattle.printing.proofs.Printing.{Going}
-use Rattle.printing.proofs.Lines.{rest}
 use Rattle.printing.proofs.line.put_lines.Given as goal
 
-abbrev pub invariant-loop-i : goal.invariant-loop-i
-invariant-loop-i l = (l.i ≤ l.count) × Going (rest l.tag l.l l.a l.b l.count l.i) (lines l.tag (take l.count (drop l.a l.l)) (take l.count (drop l.b l.l))) l.initial.out l.at l.out l.p
-
-abbrev pub decreases-loop-i : goal.decreases-loop-i
-decreases-loop-i l = l.count - l.i
+abbrev pub invariant-loop-first : goal.invariant-loop-first
+invariant-loop-first l =
+    Going (lines l.kind (iter_rest (zip_first l.first-iterator)) (iter_rest (zip_second l.first-iterator))) (lines l.kind l.firsts l.seconds) l.initial.out l.at l.out l.p

@@ -1,8 +1,12 @@
-use mathlib.Core.Path.{sym}
+use Rattle.std.proofs.Common.{refl, arith}
+use Rattle.printing.proofs.Digits.{behind_next, behind_all}
 use Rattle.printing.proofs.line.put_number.Goals as goal
 
-pub put_bytes-requires : goal.put_bytes-requires
-put_bytes-requires c = record { fits = c.requires.fits }
+pub loop-place-init : goal.loop-place-init
+loop-place-init c = record { size = refl; low = omega arith; high = omega arith; first = refl; digits = refl }
+
+pub loop-place-preserved : goal.loop-place-preserved
+loop-place-preserved c = behind_next c.loop-place.invariant c.loop-place-test.true c.digit.ensures
 
 pub returns : goal.returns
-returns c = rw (sym c.digit.ensures, sym c.digit-2.ensures, sym c.digit-3.ensures, sym c.digit-4.ensures, sym c.digit-5.ensures, sym c.digit-6.ensures, sym c.digit-7.ensures, sym c.digit-8.ensures) c.put_bytes.ensures
+returns c = rw (behind_all c.loop-place.invariant c.loop-place-test.false) at c.put.ensures

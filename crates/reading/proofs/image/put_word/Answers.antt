@@ -7,5 +7,5 @@ add_word-c-requires c = let a = c.args in (section_there a.kind a.w a.r a.sectio
 pub returns-then-last_kind-kind : goal.returns-then-last_kind-kind
 returns-then-last_kind-kind c = let a = c.args in word_goes a.kind a.w a.r a.sections.now a.bytes.now c.requires.fit.0 c.requires.fit.1 _ c.last_kind.ensures c.if-last_kind-kind.true _ _ _ c.add_word-c.ensures
 
-pub returns : goal.returns
-returns c = let a = c.args in word_stays a.kind a.w a.r a.sections.now a.bytes.now c.requires.fit.0 c.requires.fit.1 _ c.last_kind.ensures c.if-last_kind-kind.false
+pub returns-else-last_kind-kind : goal.returns-else-last_kind-kind
+returns-else-last_kind-kind c = let a = c.args in word_stays a.kind a.w a.r a.sections.now a.bytes.now c.requires.fit.0 c.requires.fit.1 _ c.last_kind.ensures c.if-last_kind-kind.false

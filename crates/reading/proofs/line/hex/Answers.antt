@@ -1,20 +1,21 @@
-use mathlib.Core.Path.{◌≡◌}
-use Prim.Native.Nat.{◌<◌}
-use native.Mathlib.Omega.{arith}
-use Rattle.reading.proofs.Digits.{read_start, read_next, read_room}
+use Rattle.std.proofs.Common.{◌∙◌, ap, unwrap_or, arith}
+use Rattle.reading.proofs.Digits.{read_start, read_room, read_next, read_all, small_or_0}
 use Rattle.reading.proofs.line.hex.Goals as goal
 
-pub loop-i-init : goal.loop-i-init
-loop-i-init c = (omega arith, read_start _ _)
+pub loop-byte-init : goal.loop-byte-init
+loop-byte-init c = read_start _
 
-pub overflow_mul-v : goal.overflow_mul-v
-overflow_mul-v c = let h : c.loop-i.v < 0x1000_0000 = read_room _ _ _ _ _ c.requires.1 c.loop-i-test.true c.loop-i.invariant.1 in omega arith
+pub overflow_mul-value : goal.overflow_mul-value
+overflow_mul-value c = let h = read_room c.loop-byte.invariant c.requires c.loop-byte-test.true in omega (arith, h)
 
-pub overflow_add-v : goal.overflow_add-v
-overflow_add-v c = let h : c.loop-i.v < 0x1000_0000 = read_room _ _ _ _ _ c.requires.1 c.loop-i-test.true c.loop-i.invariant.1 in omega arith
+pub overflow_add-value : goal.overflow_add-value
+overflow_add-value c = let h = read_room c.loop-byte.invariant c.requires c.loop-byte-test.true in omega (arith, h, small_or_0 c.digit.result c.digit.ensures.small, c.unwrap_or.ensures)
 
-pub loop-i-preserved : goal.loop-i-preserved
-loop-i-preserved c = (omega arith, read_next _ _ _ _ _ _ c.requires.0 c.loop-i-test.true c.digit_value.ensures.0 c.loop-i.invariant.1)
+pub loop-byte-preserved : goal.loop-byte-preserved
+loop-byte-preserved c =
+    read_next c.loop-byte.invariant c.loop-byte-test.true
+    (c.unwrap_or.ensures ∙ ap (λ r. unwrap_or r 0) c.digit.ensures.value)
+    (rw c.unwrap_or.ensures (small_or_0 c.digit.result c.digit.ensures.small))
 
 pub returns : goal.returns
-returns c = let e : c.loop-i.i ≡ c.args.count = omega arith in rw e at c.loop-i.invariant.1.same
+returns c = read_all c.loop-byte.invariant c.loop-byte-test.false

@@ -1,12 +1,14 @@
-use mathlib.Core.Path.{sym, ◌∙◌}
+use Rattle.std.proofs.Common.{sym, ◌∙◌}
 use Rattle.reading.proofs.Cases.{line_is, line_not, line_short}
+use Rattle.reading.proofs.line.read_frame.Goals.{then-line-lt2-via-then-line-lt2, then-line-lt2-via-else-line-lt2+then-not-are_digits}
 use Rattle.reading.proofs.line.read_frame.Goals as goal
 
-pub returns-then-are_digits : goal.returns-then-are_digits
-returns-then-are_digits c = line_is c.args.line.now _ _ c.if-line-ge2.true (sym c.if-are_digits.true ∙ c.are_digits.ensures) c.hex.ensures c.tagged.ensures
-
-pub returns-then-line-ge2 : goal.returns-then-line-ge2
-returns-then-line-ge2 c = line_not c.args.line.now _ c.if-line-ge2.true (sym c.if-are_digits.false ∙ c.are_digits.ensures) c.no_frame.ensures
+pub returns-then-line-lt2 : goal.returns-then-line-lt2
+returns-then-line-lt2 c =
+    elim c.then-line-lt2.branch [
+      | then-line-lt2-via-then-line-lt2 w ↦ line_short _ w.if-line-lt2.true
+      | then-line-lt2-via-else-line-lt2+then-not-are_digits w ↦ line_not _ w.if-line-lt2.false (sym w.if-not-are_digits.true ∙ w.are_digits.ensures)
+    ]
 
 pub returns : goal.returns
-returns c = line_short c.args.line.now _ c.if-line-ge2.false c.no_frame-2.ensures
+returns c = line_is c.args.line.now _ c.number.result c.if-line-lt2.false (sym c.if-not-are_digits.false ∙ c.are_digits.ensures) c.number.ensures c.tagged.ensures

@@ -1,3 +1,4 @@
+use Rattle.std.proofs.Common.{◌≡◌, length, arith}
 use Rattle.reading.proofs.Cutting.{within_start, within_next, ends_here, ends_last}
 use Rattle.reading.proofs.texts.line_end.Goals as goal
 
@@ -11,4 +12,4 @@ pub loop-i-preserved : goal.loop-i-preserved
 loop-i-preserved c = within_next _ _ c.requires _ c.loop-i.invariant c.loop-i-test.true c.if-text-i-eq10.false
 
 pub returns : goal.returns
-returns c = ends_last _ _ c.requires _ c.loop-i.invariant c.loop-i-test.false
+returns c = let e : c.loop-i.i ≡ length c.args.text.now = omega (arith, c.loop-i.invariant.high) in rw e at (ends_last _ _ c.requires _ c.loop-i.invariant c.loop-i-test.false)
