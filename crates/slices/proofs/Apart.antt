@@ -1,17 +1,16 @@
 -- The search for a block that stands apart, row by row, and possible blocks added one by one.
 use mathlib.Core.Path.{◌≡◌, refl, sym, ap, ◌∙◌}
-use mathlib.Core.List.{List, [], ◌∷◌, ◌++◌, map}
+use mathlib.Core.List.{List, ◌∷◌, ◌++◌}
 use mathlib.Core.Bool.{Bool, true, false, not, ◌&&◌}
-use Prim.Native.Nat.{ℕ, suc, ◌+◌, ◌≤◌, ◌<◌}
+use Prim.Native.Nat.{ℕ, ◌+◌, ◌≤◌, ◌<◌}
 use native.Mathlib.Numerals.{add-one}
-use native.Mathlib.Omega.{arith}
 use lib.Dec.{ltb}
 use lib.ListN.{length, drop, get_or, drop_of_length-le}
 use lib.Seq.{drop-cons}
 use Rattle.std.specs.Prelude.{Option, Some, None}
 use Rattle.std.specs.Option.{option_to_list}
-use Rattle.rules.specs.Choice.{if, if_true, if_false, Answer, ok, fault, ◌>>=◌}
-use Rattle.rules.specs.Blocks.{Block, block, apart, is_open, first_disconnected_block}
+use Rattle.rules.specs.Choice.{if, if_true, if_false, ok, fault, ◌>>=◌}
+use Rattle.rules.specs.Blocks.{Block, apart, is_open, first_disconnected_block}
 use Rattle.rules.specs.Slices.{Slices, add_possible_block, add_all_possible_blocks}
 use Rattle.tables.specs.declared.maps.Row.{Row}
 use Rattle.tables.specs.Rows.{row}

@@ -1,16 +1,16 @@
 -- What a mark makes of the rows of a map, in each case.
 use mathlib.Core.Path.{◌≡◌, refl, sym, ap, ◌∙◌}
-use mathlib.Core.List.{List, [], ◌∷◌, map}
+use mathlib.Core.List.{List}
 use mathlib.Core.Bool.{Bool, true, false}
-use Prim.Native.Nat.{ℕ, suc, ◌≤◌, ◌<◌}
+use Prim.Native.Nat.{ℕ, ◌≤◌, ◌<◌}
 use native.Mathlib.Omega.{arith}
-use lib.Dec.{ltb, leb}
+use lib.Dec.{leb}
 use lib.ListN.{length}
 use borrow.Author.Tests.{lt-leb, le-leb, leb-false, lt-ltb, le-ltb}
-use Rattle.std.specs.Prelude.{Option, Some, None, Result, Ok, Err, unwrap_or}
-use Rattle.rules.specs.Choice.{if, if_true, if_false, limited, ok, fault, Answer}
-use Rattle.rules.specs.Ordered.{put, has, lower}
-use Rattle.rules.specs.Blocks.{Block, block, start_of, below, reaches, cut, mark, is_new}
+use Rattle.std.specs.Prelude.{Some, None, Result, unwrap_or}
+use Rattle.rules.specs.Choice.{if, if_true, limited, ok, fault}
+use Rattle.rules.specs.Ordered.{put, has}
+use Rattle.rules.specs.Blocks.{block, start_of, below, reaches, cut, mark, is_new}
 use Rattle.rules.proofs.Ordered.{length_put_le}
 use Rattle.rules.proofs.Blocks.{mark_over, new_over, mark_held, new_held, mark_open, new_open}
 use Rattle.faults.specs.declared.Fault.{Fault}

@@ -1,14 +1,13 @@
 -- The rows of a map as rows of the rules: each operation on the one is the same on the other.
-use mathlib.Core.Path.{◌≡◌, refl, sym, ap, ◌∙◌}
+use mathlib.Core.Path.{◌≡◌, refl, ap}
 use mathlib.Core.List.{List, [], ◌∷◌, map}
-use mathlib.Core.Bool.{Bool, true, false, not}
+use mathlib.Core.Bool.{Bool, true, false}
 use Prim.Native.Nat.{ℕ, suc}
-use native.Mathlib.Omega.{arith}
 use lib.Dec.{ltb, eqb, leb}
 use lib.ListN.{length}
-use Rattle.std.specs.Prelude.{Option, Some, None, Result, Ok, Err, unwrap_or, option_map, slice_get, is_some}
-use Rattle.rules.specs.Choice.{if, by_if, limited, ok, fault, any}
-use Rattle.rules.specs.Ordered.{put, has, lower, first, last, empty, Rising, Above}
+use Rattle.std.specs.Prelude.{Result, Ok, Err}
+use Rattle.rules.specs.Choice.{if, limited, ok, fault, any}
+use Rattle.rules.specs.Ordered.{put, has, lower, first, last, Rising, Above}
 use Rattle.faults.specs.declared.Fault.{Fault}
 use Rattle.faults.specs.Number.{number_of}
 use Rattle.faults.specs.Outcome.{outcome}

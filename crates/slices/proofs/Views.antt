@@ -1,16 +1,15 @@
 -- A list of a function changed within its limit, and options as the rules' numbers.
 use mathlib.Core.Path.{◌≡◌, refl, sym, ap, ◌∙◌}
-use mathlib.Core.List.{List, [], ◌∷◌, map}
-use mathlib.Core.Bool.{Bool, true, false, not}
-use Prim.Native.Nat.{ℕ, suc, ◌-◌}
+use mathlib.Core.List.{List, [], ◌∷◌}
+use mathlib.Core.Bool.{true, not}
+use Prim.Native.Nat.{ℕ, ◌-◌}
 use native.Mathlib.Omega.{arith}
-use lib.Dec.{eqb}
 use lib.ListN.{length}
 use borrow.Author.Tests.{ne_eqb}
-use Rattle.std.specs.Prelude.{Option, Some, None, Result, Ok, Err, unwrap_or, option_map, slice_get, is_some}
-use Rattle.rules.specs.Choice.{Answer, ok, fault, ◌>>=◌, if, if_false}
-use Rattle.rules.specs.Ordered.{self as own, first, last, empty, upper}
-use Rattle.rules.specs.Blocks.{Block, block, first_start, last_start, last_end}
+use Rattle.std.specs.Prelude.{Option, Some, None, Result, Ok, Err, unwrap_or, slice_get, is_some}
+use Rattle.rules.specs.Choice.{Answer, ok, ◌>>=◌, if, if_false}
+use Rattle.rules.specs.Ordered.{self as own, empty, upper}
+use Rattle.rules.specs.Blocks.{Block, first_start, last_start, last_end}
 use Rattle.rules.specs.Slices.{Slices}
 use Rattle.faults.specs.declared.Fault.{Fault}
 use Rattle.faults.specs.Outcome.{outcome}

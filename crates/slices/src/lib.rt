@@ -89,8 +89,8 @@ impl FunctionSlices {
         ensures start { or_zero result ≡ blocks.last_start (slices_of self.now).blocks }
         ensures some { is_some result ≡ not (empty (slices_of self.now).blocks) }
     {
-        let last = self.blocks.last()?;
-        Some(last.key)
+        let block = self.blocks.last()?;
+        Some(block.key)
     }
 
     /// The first start.
@@ -98,8 +98,8 @@ impl FunctionSlices {
         ensures start { or_zero result ≡ blocks.first_start (slices_of self.now).blocks }
         ensures some { is_some result ≡ not (empty (slices_of self.now).blocks) }
     {
-        let first = self.blocks.first()?;
-        Some(first.key)
+        let block = self.blocks.first()?;
+        Some(block.key)
     }
 
     /// Sets the end of the block that starts at `start`, which is put in if there is none.

@@ -4,7 +4,6 @@ use mathlib.Core.List.{List, [], ◌∷◌, ◌++◌, map, append_assoc}
 use mathlib.Core.Bool.{true, false}
 use Prim.Native.Nat.{ℕ, zero, suc, ◌+◌, ◌-◌, ◌<◌, ◌≤◌}
 use native.Mathlib.Omega.{arith}
-use native.Mathlib.Decide.{dec_lt}
 use native.Mathlib.Nat.{le_of_suc-le-suc}
 use lib.Dec.{ltb, leb}
 use lib.ListN.{length, take, drop, get_or, length-append, length-map, length-drop, drop_of_length-le}
@@ -15,11 +14,11 @@ use borrow.Author.Tests.{ltb-true, ltb-false, leb-true, leb-false, lt-leb, le-le
 use Rattle.std.specs.List.{replace_range, refill}
 use Rattle.std.specs.List.Sorted.{IsNonDecreasingBy, IsPartitionPoint}
 use Rattle.rules.specs.Choice.{if_true, if_false, ok, fault}
-use Rattle.rules.specs.Ordered.{rank, put, Above, Rising}
-use Rattle.rules.specs.Slices.{Branches, from_of, count_branches}
+use Rattle.rules.specs.Ordered.{rank, put, Rising}
+use Rattle.rules.specs.Slices.{from_of, count_branches}
 use Rattle.rules.proofs.Ordered.{rank_is, rank_le, put_rising}
 use Rattle.tables.specs.declared.multimap.Way.{Way}
-use Rattle.tables.specs.Groups.{way, leaves, branches_of, add_way, grouped, limited_ways}
+use Rattle.tables.specs.Groups.{way, leaves, branches_of, grouped, limited_ways}
 use Rattle.tables.proofs.Groups.{replaced, put_pairs, count_grouped, rank_next, next_leaves, rising_rest}
 
 -- the words that ways on leave do not fall

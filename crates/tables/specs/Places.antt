@@ -1,5 +1,5 @@
 -- Where a key is found in a table, and the rows next to that place.
-use Rattle.std.specs.Prelude.{◌≡◌, ℕ, Bool, true, false, List, [], ◌∷◌, Option, Some, None, Result, Ok, Err, ltb, eqb}
+use Rattle.std.specs.Prelude.{◌≡◌, ℕ, true, false, List, [], ◌∷◌, Option, Some, None, Result, Ok, Err, ltb, eqb}
 use Rattle.rules.specs.Choice.{if}
 use Rattle.rules.specs.Ordered.{rank, has, lower}
 

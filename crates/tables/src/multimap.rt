@@ -3,7 +3,7 @@
 ghost use Rattle.std.specs.Prelude.{◌≡◌, ◌+◌, ◌-◌, ◌<◌, ◌≤◌, [], suc, length, map};
 ghost use Rattle.std.specs.List.{replace_range};
 ghost use Rattle.rules.specs.Ordered.{rank, put, Rising};
-ghost use Rattle.rules.specs.Slices.{from_of};
+ghost use Rattle.rules.specs.Slices.{from_of, count_branches};
 ghost use Rattle.faults.specs.Outcome.{outcome};
 ghost use Rattle.tables.specs.Groups.{way, leaves, branches_of, grouped, limited_ways};
 
@@ -54,6 +54,14 @@ impl<const N: usize> Ways<N> {
         ensures rising { Rising from_of (grouped result.now) }
     {
         self.ways.as_slice()
+    }
+
+    /// How many there are.
+    pub fn len(&self) -> usize
+        ensures value { result ≡ count_branches self.now }
+        ensures fits { result ≤ N }
+    {
+        self.ways.len()
     }
 
     /// Takes all of them out.

@@ -1,7 +1,6 @@
 -- What is left to be added, address by address.
 use Rattle.std.proofs.Common.{sym, ◌∙◌}
 use Rattle.std.proofs.lemmas.Result.{err_from_is_err_and}
-use Rattle.slices.specs.View.{slices_of}
 use Rattle.slices.proofs.Apart.{added_next, added_not, added_all}
 use Rattle.slices.proofs.FunctionSlices.add_all_possible_blocks.Goals as goal
 

@@ -4,18 +4,18 @@ use Rattle.slices.specs.View.{slices_of}
 use Rattle.slices.proofs.Views.{first_start_is, some_first}
 use Rattle.slices.proofs.FunctionSlices.first_start.Goals as goal
 
-pub returns-in_err-first-clause-start : goal.returns-in_err-first-clause-start
+pub returns-in_err-block-clause-start : goal.returns-in_err-block-clause-start
 unfolding slices_of
-returns-in_err-first-clause-start c = rw c.from_residual.ensures (first_start_is c.args.self.now.blocks None (sym c.in_err-first.was ∙ c.first.ensures))
+returns-in_err-block-clause-start c = rw c.from_residual.ensures (first_start_is c.args.self.now.blocks None (sym c.in_err-block.was ∙ c.first.ensures))
 
-pub returns-in_err-first-clause-some : goal.returns-in_err-first-clause-some
+pub returns-in_err-block-clause-some : goal.returns-in_err-block-clause-some
 unfolding slices_of
-returns-in_err-first-clause-some c = rw c.from_residual.ensures (some_first c.args.self.now.blocks None (sym c.in_err-first.was ∙ c.first.ensures))
+returns-in_err-block-clause-some c = rw c.from_residual.ensures (some_first c.args.self.now.blocks None (sym c.in_err-block.was ∙ c.first.ensures))
 
 pub returns-clause-start : goal.returns-clause-start
 unfolding slices_of
-returns-clause-start c = first_start_is c.args.self.now.blocks (Some c.in_ok-first.first) (sym c.in_ok-first.was ∙ c.first.ensures)
+returns-clause-start c = first_start_is c.args.self.now.blocks (Some c.in_ok-block.block) (sym c.in_ok-block.was ∙ c.first.ensures)
 
 pub returns-clause-some : goal.returns-clause-some
 unfolding slices_of
-returns-clause-some c = some_first c.args.self.now.blocks (Some c.in_ok-first.first) (sym c.in_ok-first.was ∙ c.first.ensures)
+returns-clause-some c = some_first c.args.self.now.blocks (Some c.in_ok-block.block) (sym c.in_ok-block.was ∙ c.first.ensures)

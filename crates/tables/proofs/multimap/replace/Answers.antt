@@ -1,5 +1,5 @@
 -- What was put behind the others, brought forward to its place.
-use Rattle.std.proofs.Common.{◌≡◌, sym, length, take, drop, map, arith, rules, ap, ◌∙◌}
+use Rattle.std.proofs.Common.{◌≡◌, sym, length, take, drop, map, arith}
 use Rattle.std.proofs.lemmas.List.{length-map, length-take-le}
 use lib.Seq.{take_all}
 use Rattle.tables.specs.Groups.{way}

@@ -1,7 +1,7 @@
 -- The row with the key, where there is one.
-use Rattle.std.proofs.Common.{◌≡◌, ◌<◌, length, arith, rules, sym, ap, option_map, slice_get}
+use Rattle.std.proofs.Common.{◌<◌, length, arith, ap}
 use Rattle.std.proofs.lemmas.Option.{slice_get-get_or}
-use Rattle.tables.specs.Rows.{row, key_of, value_of}
+use Rattle.tables.specs.Rows.{row, key_of}
 use Rattle.tables.proofs.Places.{out_at, row_of_is, row_of_none}
 use Rattle.tables.proofs.maps.Map.get.Goals as goal
 

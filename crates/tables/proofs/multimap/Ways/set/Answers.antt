@@ -1,5 +1,5 @@
 -- The ways on from a word, which stand between two places, replaced.
-use Rattle.std.proofs.Common.{◌≤◌, ◌+◌, ◌-◌, length, arith, rules, refl}
+use Rattle.std.proofs.Common.{◌≤◌, length, arith, rules, refl}
 use Rattle.tables.proofs.Splices.{in_order, until_le, ways_rise, ways_full, ways_fit}
 use Rattle.tables.proofs.multimap.Ways.set.Goals as goal
 
