@@ -1,5 +1,6 @@
 // The code section: its words, and what each does.
 ghost use Rattle.std.specs.Prelude.{◌≡◌, ◌<◌, ◌≤◌, ◌+◌, IfSome, length, true};
+ghost use Rattle.rules.specs.Address.{address_of};
 ghost use Rattle.rules.specs.Bytes.{words_in};
 ghost use Rattle.rules.specs.Image as images;
 ghost use Rattle.obj.specs.Sections.{IsCode};
@@ -56,6 +57,15 @@ impl<'a> ObjInfo<'a> {
         ensures { result ≡ some_word (images.word (image_of self.now) a) }
     {
         u32::try_from(obj::sections::word(self.bytes, self.code, a)).ok()
+    }
+
+    /// The code word at an address of the code section.
+    pub fn word_at(&self, key: u64) -> u32
+        requires { images.in_code (image_of self.now) key ≡ true }
+        ensures { result ≡ images.word (image_of self.now) (address_of key) }
+    {
+        let i = ((key % 0x1_0000_0000) as u32 - self.code.base) as usize / 4;
+        ppc::words::word_at(self.bytes, self.code.offset + i * 4)
     }
 
     /// What the code word at an address does.
