@@ -1,6 +1,5 @@
 // The entries of a table.
 ghost use Rattle.std.specs.Prelude.{◌≡◌, ℕ, ◌≤◌, ◌-◌, ◌*◌, ◌/◌, drop, take};
-ghost use Rattle.rules.specs.Address.{address_of};
 ghost use Rattle.rules.specs.Bytes.{words_in};
 ghost use Rattle.rules.specs.JumpTable as rules;
 ghost use Rattle.obj_info.specs.Info.{image_of, some_nonzero};
@@ -10,7 +9,7 @@ ghost use Rattle.jump_tables.specs.Entries.{entries_of, table_of, sized_reading,
 use crate::reading::Reading;
 use crate::words::{sized_word, target_inside, words_of};
 use faults::Fault;
-use obj_info::{ObjInfo, Section};
+use obj_info::{ObjInfo, Section, address_of};
 use tables::Set;
 
 /// Entries, ascending without repeats, and the table's size.
@@ -106,7 +105,7 @@ pub fn uniq_jump_table_entries(
             size: 0,
         });
     }
-    let a = (target % 0x1_0000_0000) as u32;
+    let a = address_of(target);
     let bytes = table_bytes(section, a);
     let size = obj.known_size(a).unwrap_or(size);
     if size == 0 {

@@ -15,11 +15,12 @@ use Rattle.rules.specs.Check.{check}
 use Rattle.rules.proofs.Tests.{and_left, and_right}
 use Rattle.rules.proofs.Passes.{passed_of, checked_of}
 use Rattle.obj_image.specs.Lent.{Lent, rows, section_row, symbol_row, given, image}
-use Rattle.obj.specs.Sections.{IsCode, IsPart}
+use Rattle.obj.specs.Sections.{IsCode, IsPart, InBytes}
 use Rattle.obj.specs.declared.sections.Code.{Code}
 use Rattle.obj.specs.declared.sections.Part.{Part}
 use Rattle.obj.proofs.CodeSection.{code_in, code_is}
-use Rattle.obj.proofs.Ready.{whole_functions}
+use Rattle.obj.proofs.Ready.{whole_functions, in_bytes}
+use Rattle.obj.proofs.Words.{word_here}
 use Rattle.obj_image.proofs.Rows.{rows_count}
 use Rattle.obj_info.proofs.Rows.{Rowwise, rowwise, rows_located, code_small, code_numbered, bss_empty, symbols_chunked}
 use Rattle.obj_info.specs.Info.{some_nonzero, some_word, index_in_code, symbol_in}
@@ -85,6 +86,16 @@ module _ (l : Lent) (checked : check (given l) ≡ 0) (c : Code) (code : IsCode 
   pub index_found : (k : ℕ) → in_code (image l) k ≡ true → Some ((k % 0x1_0000_0000 - c.base) / 4) ≡ index_in_code (image l) k
   unfolding index
   index_found k h = rw code.base (sym (if_true h _ _))
+
+  -- its word
+  pub word_end : (k : ℕ) → in_code (image l) k ≡ true → c.offset + (k % 0x1_0000_0000 - c.base) / 4 * 4 + 4 ≤ length l.bytes
+  word_end k h =
+      let fits : InBytes l.bytes c = in_bytes l checked c code in
+      omega (arith, in_code_low k h, in_code_high k h, fits.words, fits.bytes)
+
+  pub word_there : (k w : ℕ) → in_code (image l) k ≡ true → words_in (drop (c.offset + (k % 0x1_0000_0000 - c.base) / 4 * 4) l.bytes) ≡ w ∷ words_in (drop (c.offset + (k % 0x1_0000_0000 - c.base) / 4 * 4 + 4) l.bytes) → w ≡ images.word (image l) (address_of k)
+  word_there k w h e =
+      word_here l.bytes c (address_of k) (in_bytes l checked c code) l refl code (passed_of (given l) checked).image ((k % 0x1_0000_0000 - c.base) / 4) w (omega arith) (in_code_low k h) (in_code_high k h) refl e
 
   -- the entry point
   pub entry_found : (a : ℕ) → 1 ≤ length l.entry → a ≡ get_or l.entry 0 0 → Some (c.number * 0x1_0000_0000 + a) ≡ some_nonzero (image l).entry

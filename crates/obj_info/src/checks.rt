@@ -21,7 +21,8 @@ impl<'a> ObjInfo<'a> {
         skips: &'a [u32],
         entry: &'a [u32],
     ) -> Result<Self, Fault>
-        ensures ok { IfOk result (λ info. lent_of info ≡ lent sections.now bytes.now outcomes.now functions.now objects.now skips.now entry.now) }
+        ensures ok { IfOk result (λ info.
+            lent_of info ≡ lent sections.now bytes.now outcomes.now functions.now objects.now skips.now entry.now) }
         ensures err { IfErr result (λ e. number_of e ≡ rules.check
             (given (lent sections.now bytes.now outcomes.now functions.now objects.now skips.now entry.now))) }
     {

@@ -1,5 +1,6 @@
 // The code section: its words, and what each does.
 ghost use Rattle.std.specs.Prelude.{◌≡◌, ◌<◌, ◌≤◌, ◌+◌, IfSome, length, true};
+ghost use Rattle.rules.specs.Address.{address_of};
 ghost use Rattle.rules.specs.Bytes.{words_in};
 ghost use Rattle.rules.specs.Image as images;
 ghost use Rattle.obj.specs.Sections.{IsCode};
@@ -7,6 +8,7 @@ ghost use Rattle.obj.specs.Outcomes.{told_for};
 ghost use Rattle.obj_info.specs.Info.{lent_of, image_of, some_nonzero, some_word, index_in_code};
 
 use crate::info::ObjInfo;
+use crate::keys::{address_of, section_of};
 use obj::outcomes::Told;
 use obj::sections::Code;
 
@@ -33,10 +35,10 @@ impl<'a> ObjInfo<'a> {
     pub fn is_code_address(&self, key: u64) -> bool
         ensures { result ≡ images.in_code (image_of self.now) key }
     {
-        let a = key % 0x1_0000_0000;
+        let a = u64::from(address_of(key));
         let base = u64::from(self.code.base);
         let past = base + u64::from(self.code.size);
-        (key / 0x1_0000_0000 == self.code.number) & ((base <= a) & (a < past))
+        (section_of(key) == self.code.number) & ((base <= a) & (a < past))
     }
 
     /// Which of the code words lies at an address: below 65,536.
@@ -45,7 +47,7 @@ impl<'a> ObjInfo<'a> {
         ensures bound { IfSome result (λ i. i < 65536) }
     {
         if self.is_code_address(key) {
-            Some(((key % 0x1_0000_0000) as u32 - self.code.base) as usize / 4)
+            Some((address_of(key) - self.code.base) as usize / 4)
         } else {
             None
         }
@@ -56,6 +58,15 @@ impl<'a> ObjInfo<'a> {
         ensures { result ≡ some_word (images.word (image_of self.now) a) }
     {
         u32::try_from(obj::sections::word(self.bytes, self.code, a)).ok()
+    }
+
+    /// The code word at an address of the code section.
+    pub fn word_at(&self, key: u64) -> u32
+        requires { images.in_code (image_of self.now) key ≡ true }
+        ensures { result ≡ images.word (image_of self.now) (address_of key) }
+    {
+        let i = (address_of(key) - self.code.base) as usize / 4;
+        ppc::words::word_at(self.bytes, self.code.offset + i * 4)
     }
 
     /// What the code word at an address does.

@@ -17,6 +17,7 @@ pub struct ObjInfo<'a> {
     pub(crate) skips: &'a [u32],
     pub(crate) entry: &'a [u32],
     pub(crate) code: Code,
-    pub ghost checked: { rules.check (given (lent sections.now bytes.now outcomes.now functions.now objects.now skips.now entry.now)) ≡ 0 },
+    pub ghost checked: { rules.check
+        (given (lent sections.now bytes.now outcomes.now functions.now objects.now skips.now entry.now)) ≡ 0 },
     pub ghost is_code: { IsCode (lent sections.now bytes.now outcomes.now functions.now objects.now skips.now entry.now) code },
 }

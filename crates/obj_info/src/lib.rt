@@ -4,10 +4,12 @@
 mod checks;
 mod code;
 mod info;
+mod keys;
 mod known;
 mod sections;
 
 pub use info::ObjInfo;
+pub use keys::{address_of, section_of};
 pub use obj::outcomes::{Branch, Outcome, To, Told};
 pub use obj::sections::Code;
 pub use sections::{Section, SectionKind};
