@@ -68,6 +68,7 @@ impl<const N: usize> Map<N> {
     fn search(&self, key: u64) -> Result<usize, usize>
         ensures place { IsPlace key_of key self.now result }
         ensures fits { length self.now ≤ N }
+        ensures rising { Rising key_of self.now }
     {
         self.rows.binary_search_by_key(&key, |row| row.key)
     }
@@ -84,6 +85,7 @@ impl<const N: usize> Map<N> {
     pub fn contains_key(&self, key: u64) -> bool
         ensures value { result ≡ has key_of key self.now }
         ensures fits { length self.now ≤ N }
+        ensures rising { Rising key_of self.now }
     {
         self.search(key).is_ok()
     }

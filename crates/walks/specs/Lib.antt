@@ -1,0 +1,6 @@
+pub mod Around
+pub mod State
+pub mod Branched
+pub mod Code
+pub mod After
+pub mod Noted
