@@ -1,5 +1,5 @@
 -- What the lists of an image that passes the checks are: what the lookups ask for. Assumes nothing.
-use Prim.Native.Nat.{ℕ, suc, ◌+◌, ◌/◌, ◌%◌, ◌≤◌, ◌<◌}
+use Prim.Native.Nat.{ℕ, suc, ◌+◌, ◌*◌, ◌/◌, ◌%◌, ◌≤◌, ◌<◌}
 use mathlib.Core.Path.{◌≡◌, refl, sym, ap, ◌∙◌}
 use mathlib.Core.Bool.{Bool, true, false, ◌&&◌, and-false, ◌||◌}
 use mathlib.Core.List.{List, [], ◌∷◌, map}
@@ -190,15 +190,22 @@ module _ (l : Lent) (checked : rules.check (given l) ≡ 0) where
   unfolding rules.check_outcomes given images.code_words
   count_outcomes = eqb-true _ _ (and_left _ _ passed.outcomes)
 
+  -- each code word has a row
+  pub outcome_row_end : (i : ℕ) → i < images.code_words (image l) → i * 6 + 6 ≤ length l.outcomes
+  unfolding images.code_words
+  outcome_row_end i h = omega (arith, count_outcomes, rows_count 6 (omega arith) outcome_row l.outcomes whole_outcomes)
+
   module _ (c : Code) (code : IsCode l c) where
     pub in_bytes : InBytes l.bytes c
     in_bytes = record { words = rw code.size (checked_of (given l) checked).sound.aligned; bytes = code.inside passed.image }
 
-    pub at_code : (k : ℕ) → in_code (image l) k ≡ true → InCode l.outcomes c k
-    unfolding in_code
-    at_code k h =
-        let i : contains (code_section (image l)) (address_of k) ≡ true = and_right (eqb (section_of k) (code_number (image l))) _ h in
+    pub at_address : (k : ℕ) → contains (code_section (image l)) (address_of k) ≡ true → InCode l.outcomes c k
+    at_address k i =
         let low : (code_section (image l)).base ≤ address_of k = leb-true _ _ (and_left _ _ i) in
         let high : address_of k < (code_section (image l)).base + (code_section (image l)).size = ltb-true _ _ (and_right (leb (code_section (image l)).base (address_of k)) _ i) in
         let n : length l.outcomes / 6 ≡ length (rows 6 outcome_row l.outcomes) = rows_count 6 (omega arith) outcome_row l.outcomes whole_outcomes in
         record { low = omega (arith, code.base); row = omega (arith, code.base, code.size, count_outcomes, whole_outcomes, (checked_of (given l) checked).sound.aligned) }
+
+    pub at_code : (k : ℕ) → in_code (image l) k ≡ true → InCode l.outcomes c k
+    unfolding in_code
+    at_code k h = at_address k (and_right (eqb (section_of k) (code_number (image l))) _ h)

@@ -14,7 +14,7 @@ use Rattle.rules.specs.Image as images
 use Rattle.rules.specs.Given.{OutcomeRow, branch_of, outcome_of, told_of, image_of}
 use Rattle.obj_image.specs.Lent.{Lent, rows, outcome_row, branch_row, to_number, given, image}
 use Rattle.obj.specs.Sections.{IsCode}
-use Rattle.obj.specs.Outcomes.{row_of, read_outcome, row_by, to_list, branch_list, outcome_for, told_for}
+use Rattle.obj.specs.Outcomes.{row_of, read_outcome, row_by, to_list, branch_list, outcome_for, told_for, is_go_on, goes_on}
 use Rattle.obj.specs.declared.sections.Code.{Code}
 use Rattle.obj_rows.specs.declared.outcomes.Row.{Row}
 use Rattle.obj.specs.declared.outcomes.Branch.{Branch}
@@ -22,7 +22,7 @@ use Rattle.obj.specs.declared.outcomes.To.TheVariants.{Nowhere, Address, Table, 
 use Rattle.obj.specs.declared.outcomes.Outcome.{Outcome}
 use Rattle.obj.specs.declared.outcomes.Outcome.TheVariants.{Branches}
 use Rattle.obj_image.proofs.Rows.{row_next, rows_drop, getD_mapped, chunk_at}
-use Rattle.obj_rows.proofs.OutcomeRows.{row_mark, whole_outcome}
+use Rattle.obj_rows.proofs.OutcomeRows.{row_kind, row_mark, whole_outcome}
 
 -- ---- a branch
 
@@ -105,3 +105,29 @@ told_is o c k a i r u ea ei next e l is code =
     ∙ sym (getD_mapped told_of nothing (rows 6 outcome_row o) i (row_of r) _ (rows_drop 6 (omega arith) outcome_row o i ∙ next))
     ∙ ap (λ (t : List ℕ). get_or (map told_of (rows 6 outcome_row t)) i nothing) (sym is)
     ∙ ap (λ (n : ℕ). get_or (map told_of (rows 6 outcome_row l.outcomes)) n nothing) (sym at)
+
+-- ---- going on
+
+-- by the kind
+kind_goes_on : (r : OutcomeRow) → eqb r.kind 0 ≡ is_go_on (outcome_of r)
+unfolding if
+kind_goes_on r = by (eqb r.kind 0) (eqb r.kind 1) (eqb r.kind 2) (eqb r.kind 3) (eqb r.kind 4) (eqb r.kind 5)
+  where
+    by : (a b c d e f : Bool) → a ≡ is_go_on (if a images.go_on (if b images.illegal (if c images.unknown (if d images.return (if e (images.jump r.address) (if f (images.jump_table r.address r.size) (images.branches (map branch_of r.branches))))))))
+    by true b c d e f = refl
+    by false true c d e f = refl
+    by false false true d e f = refl
+    by false false false true e f = refl
+    by false false false false true f = refl
+    by false false false false false true = refl
+    by false false false false false false = refl
+
+pub goes_on_is : (o : List ℕ) (cs : List (List ℕ)) → cs ≡ first_chunks 6 (length o / 6) o → (i : ℕ) → i * 6 + 6 ≤ length o → (l : Lent) → l.outcomes ≡ o → eqb (get_or (get_or cs i []) 0 0) 0 ≡ goes_on (image l) i
+unfolding goes_on image_of given
+goes_on_is o cs cut i h l is =
+    let r : Row = row_by (get_or cs i []) in
+    let there : get_or (map told_of (rows 6 outcome_row o)) i nothing ≡ told_of (row_of r) = getD_mapped told_of nothing (rows 6 outcome_row o) i (row_of r) _ (rows_drop 6 (omega arith) outcome_row o i ∙ told_row o cs cut i h r refl) in
+    ap (λ (n : ℕ). eqb n 0) (sym (row_kind r)) ∙
+    kind_goes_on (row_of r) ∙
+    ap (λ (t : images.Told). is_go_on t.outcome) (sym there) ∙
+    ap (λ (t : List ℕ). is_go_on (get_or (map told_of (rows 6 outcome_row t)) i nothing).outcome) (sym is)

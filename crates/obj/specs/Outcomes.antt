@@ -1,5 +1,5 @@
 -- Outcomes by value; as rows they are passed on.
-use Rattle.std.specs.Prelude.{ℕ, ◌+◌, ◌*◌, ◌-◌, ◌/◌, ◌≤◌, Bool, List, [], ◌∷◌, ◌++◌, length}
+use Rattle.std.specs.Prelude.{ℕ, ◌+◌, ◌*◌, ◌-◌, ◌/◌, ◌≤◌, Bool, true, false, List, get_or, [], ◌∷◌, ◌++◌, length}
 use Rattle.rules.specs.Address.{address_of}
 use Rattle.rules.specs.Image as images
 use Rattle.obj.specs.declared.sections.Code.{Code}
@@ -34,6 +34,20 @@ outcome_for (Branches b c) = images.branches (branch_list b ++ branch_list c)
 -- with its mark
 abbrev pub told_for : Told → images.Told
 told_for t = record { outcome = outcome_for t.outcome; mark = t.mark }
+
+-- to go on
+abbrev pub is_go_on : images.Outcome → Bool
+is_go_on images.go_on = true
+is_go_on images.illegal = false
+is_go_on images.unknown = false
+is_go_on images.return = false
+is_go_on (images.jump a) = false
+is_go_on (images.jump_table a n) = false
+is_go_on (images.branches l) = false
+
+-- the code word i goes on
+unfoldable pub goes_on : images.Image → ℕ → Bool
+goes_on im i = is_go_on (get_or im.told i (record { outcome = images.illegal; mark = false })).outcome
 
 -- the key k lies in code, whose words have an outcome each
 pub record InCode (outcomes : List ℕ) (c : Code) (k : ℕ) : Type 0 where

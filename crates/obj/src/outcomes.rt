@@ -1,11 +1,11 @@
 // What each code word does: what check 2 asks of it, and the outcome at an address.
-ghost use Rattle.std.specs.Prelude.{◌≡◌, ◌≤◌, ◌/◌, [], eqb, map};
+ghost use Rattle.std.specs.Prelude.{◌≡◌, ◌≤◌, ◌+◌, ◌*◌, ◌/◌, [], eqb, length, map};
 ghost use Rattle.rules.specs.Check as rules;
 ghost use Rattle.rules.specs.Image as images;
 ghost use Rattle.obj_image.specs.Lent.{Lent, lent, branch_row, given, image, seen};
 ghost use Rattle.obj.specs.Sections.{Few, IsCode};
 ghost use Rattle.rules.specs.Given.{branch_of, outcome_of};
-ghost use Rattle.obj.specs.Outcomes.{row_of, branch_list, to_list, outcome_for, told_for, InCode};
+ghost use Rattle.obj.specs.Outcomes.{row_of, branch_list, to_list, outcome_for, told_for, goes_on as goes, InCode};
 
 use crate::sections::{Code, code_section};
 pub use obj_rows::outcomes::Row;
@@ -125,4 +125,13 @@ pub fn told_at(outcomes: &[u32], code: Code, key: u64) -> Told
         outcome: outcome_of(r),
         mark: r.mark == 1,
     }
+}
+
+// Whether the code word with a number goes on.
+pub fn goes_on(outcomes: &[u32], word: usize) -> bool
+    requires { word * 6 + 6 ≤ length outcomes.now }
+    ensures { (l : Lent) → l.outcomes ≡ outcomes.now → result ≡ goes (image l) word }
+{
+    let (outcomes, _) = outcomes.as_chunks::<6>();
+    outcomes[word][0] == Kind::GoOn as u32
 }

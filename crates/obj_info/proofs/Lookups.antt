@@ -1,8 +1,7 @@
 -- What the lookups in a checked image come to. Assumes nothing.
-use Rattle.std.proofs.Common.{◌≡◌, ℕ, ◌+◌, ◌-◌, ◌/◌, ◌%◌, ◌*◌, ◌<◌, ◌≤◌, ◌≢◌, refl, sym, ap, ◌∙◌, List, [], ◌∷◌, length, take, drop, get_or, map, Bool, true, false, ◌&&◌, Option, Some, None, Result, Ok, Err, eqb, leb, ltb, arith}
+use Rattle.std.proofs.Common.{◌≡◌, ℕ, ◌+◌, ◌-◌, ◌/◌, ◌%◌, ◌*◌, ◌<◌, ◌≤◌, ◌≢◌, refl, sym, ap, ◌∙◌, List, [], ◌∷◌, length, take, drop, get_or, map, Bool, true, false, ◌&&◌, Some, None, eqb, leb, ltb, arith}
 use mathlib.Core.Logic.{◌⊎◌, inl, inr}
-use borrow.Author.Tests.{eq-eqb, ne_eqb, lt-ltb, le-ltb, leb-true, ltb-true, eqb-true, eqb-false}
-use Rattle.std.specs.Result.{OkIff, result_ok}
+use borrow.Author.Tests.{eq-eqb, ne_eqb, lt-ltb, leb-true, ltb-true, eqb-true, eqb-false}
 use Rattle.std.specs.Simd.{first_chunks}
 use Rattle.rules.specs.Choice.{if, if_true, if_false}
 use Rattle.rules.specs.Address.{address_of, section_of}
@@ -23,7 +22,7 @@ use Rattle.obj.proofs.Ready.{whole_functions, in_bytes}
 use Rattle.obj.proofs.Words.{word_here}
 use Rattle.obj_image.proofs.Rows.{rows_count}
 use Rattle.obj_info.proofs.Rows.{Rowwise, rowwise, rows_located, code_small, code_numbered, bss_empty, symbols_chunked}
-use Rattle.obj_info.specs.Info.{some_nonzero, some_word, index_in_code, symbol_in}
+use Rattle.obj_info.specs.Info.{some_nonzero, some_word, index_in_code, index_within, symbol_in}
 
 -- 0 is none
 pub none_found : (n : ℕ) → 0 ≡ n → None ≡ some_nonzero n
@@ -68,34 +67,45 @@ module _ (l : Lent) (checked : check (given l) ≡ 0) (c : Code) (code : IsCode 
   code_end = rw (code.base, code.size) (checked_of (given l) checked).sound.fits
 
   -- an address lies in code
-  pub in_code_is : (k : ℕ) → (eqb (k / 0x1_0000_0000) c.number && (leb c.base (k % 0x1_0000_0000) && ltb (k % 0x1_0000_0000) (c.base + c.size))) ≡ in_code (image l) k
+  pub in_code_is : (k : ℕ) → (eqb (k / 0x1_0000_0000) c.number && contains (code_section (image l)) (address_of k)) ≡ in_code (image l) k
   unfolding in_code
-  in_code_is k = rw (code.number, code.base, code.size) refl
+  in_code_is k = rw code.number refl
 
-  pub in_code_low : (k : ℕ) → in_code (image l) k ≡ true → c.base ≤ k % 0x1_0000_0000
+  -- and one in code lies in the code section
+  pub within : (k : ℕ) → in_code (image l) k ≡ true → contains (code_section (image l)) (address_of k) ≡ true
   unfolding in_code
-  in_code_low k h = rw code.base (leb-true _ _ (and_left _ _ (and_right (eqb (section_of k) (code_number (image l))) _ h)))
+  within k h = and_right (eqb (section_of k) (code_number (image l))) _ h
 
-  in_code_high : (k : ℕ) → in_code (image l) k ≡ true → k % 0x1_0000_0000 < c.base + c.size
-  unfolding in_code
-  in_code_high k h = rw (code.base, code.size) (ltb-true _ _ (and_right (leb (code_section (image l)).base (address_of k)) _ (and_right (eqb (section_of k) (code_number (image l))) _ h)))
+  pub address_low : (k : ℕ) → contains (code_section (image l)) (address_of k) ≡ true → c.base ≤ k % 0x1_0000_0000
+  address_low k h = rw code.base (leb-true _ _ (and_left _ _ h))
 
-  pub index_small : (k : ℕ) → in_code (image l) k ≡ true → (k % 0x1_0000_0000 - c.base) / 4 < 65536
-  index_small k h = omega (arith, in_code_low k h, in_code_high k h, size_small)
+  address_high : (k : ℕ) → contains (code_section (image l)) (address_of k) ≡ true → k % 0x1_0000_0000 < c.base + c.size
+  address_high k h = rw (code.base, code.size) (ltb-true _ _ (and_right (leb (code_section (image l)).base (address_of k)) _ h))
+
+  pub address_small : (k : ℕ) → contains (code_section (image l)) (address_of k) ≡ true → address_of k < 0xF000_0000
+  address_small k h = omega (arith, address_high k h, code_end)
+
+  pub index_small : (k : ℕ) → contains (code_section (image l)) (address_of k) ≡ true → (k % 0x1_0000_0000 - c.base) / 4 < 65536
+  index_small k h = omega (arith, address_low k h, address_high k h, size_small)
 
   pub index_found : (k : ℕ) → in_code (image l) k ≡ true → Some ((k % 0x1_0000_0000 - c.base) / 4) ≡ index_in_code (image l) k
   unfolding index
   index_found k h = rw code.base (sym (if_true h _ _))
 
+  -- the same by the 32-bit address alone
+  pub inside_found : (k : ℕ) → contains (code_section (image l)) (address_of k) ≡ true → Some ((k % 0x1_0000_0000 - c.base) / 4) ≡ index_within (image l) k
+  unfolding index
+  inside_found k h = rw code.base (sym (if_true h _ _))
+
   -- its word
-  pub word_end : (k : ℕ) → in_code (image l) k ≡ true → c.offset + (k % 0x1_0000_0000 - c.base) / 4 * 4 + 4 ≤ length l.bytes
+  pub word_end : (k : ℕ) → contains (code_section (image l)) (address_of k) ≡ true → c.offset + (k % 0x1_0000_0000 - c.base) / 4 * 4 + 4 ≤ length l.bytes
   word_end k h =
       let fits : InBytes l.bytes c = in_bytes l checked c code in
-      omega (arith, in_code_low k h, in_code_high k h, fits.words, fits.bytes)
+      omega (arith, address_low k h, address_high k h, fits.words, fits.bytes)
 
-  pub word_there : (k w : ℕ) → in_code (image l) k ≡ true → words_in (drop (c.offset + (k % 0x1_0000_0000 - c.base) / 4 * 4) l.bytes) ≡ w ∷ words_in (drop (c.offset + (k % 0x1_0000_0000 - c.base) / 4 * 4 + 4) l.bytes) → w ≡ images.word (image l) (address_of k)
+  pub word_there : (k w : ℕ) → contains (code_section (image l)) (address_of k) ≡ true → words_in (drop (c.offset + (k % 0x1_0000_0000 - c.base) / 4 * 4) l.bytes) ≡ w ∷ words_in (drop (c.offset + (k % 0x1_0000_0000 - c.base) / 4 * 4 + 4) l.bytes) → w ≡ images.word (image l) (address_of k)
   word_there k w h e =
-      word_here l.bytes c (address_of k) (in_bytes l checked c code) l refl code (passed_of (given l) checked).image ((k % 0x1_0000_0000 - c.base) / 4) w (omega arith) (in_code_low k h) (in_code_high k h) refl e
+      word_here l.bytes c (address_of k) (in_bytes l checked c code) l refl code (passed_of (given l) checked).image ((k % 0x1_0000_0000 - c.base) / 4) w (omega arith) (address_low k h) (address_high k h) refl e
 
   -- the entry point
   pub entry_found : (a : ℕ) → 1 ≤ length l.entry → a ≡ get_or l.entry 0 0 → Some (c.number * 0x1_0000_0000 + a) ≡ some_nonzero (image l).entry
@@ -117,9 +127,24 @@ no_entry l h = none_entered (images.code_from 1 (image l).sections) l.entry h
 
 -- ---- words
 
-pub word_found : {E : Type 0} (r n : ℕ) → r ≡ n → (t : Result ℕ E) → OkIff t (r < 0x1_0000_0000) r → (o : Option ℕ) → o ≡ result_ok t → o ≡ some_word n
-word_found r n e (Ok x) f o h = rw (h, ← e, f.1) (sym (if_true (lt-ltb r no_word f.0) _ _))
-word_found r n e (Err x) f o h = rw (h, ← e) (sym (if_false (le-ltb r no_word (omega arith)) _ _))
+pub one_word : (w n : ℕ) → w ≡ n → w < no_word → Some w ≡ some_word n
+one_word w n e h = rw (← e) (sym (if_true (lt-ltb w no_word h) _ _))
+
+pub none_word : (n : ℕ) → no_word ≡ n → None ≡ some_word n
+unfolding if
+none_word n e = rw (← e) refl
+
+-- whether it is a given one
+pub this_word : (n w o : ℕ) → Some w ≡ some_word n → eqb w o ≡ eqb n o
+unfolding if
+this_word n w o e = go (ltb n no_word) e
+  where
+    go : (b : Bool) → Some w ≡ if b (Some n) None → eqb w o ≡ eqb n o
+    go true e = let q : w ≡ n = cc in ap (λ (x : ℕ). eqb x o) q
+    go false e = cc
+
+pub no_word_this : (n o : ℕ) → n ≡ no_word → o < no_word → false ≡ eqb n o
+no_word_this n o e h = sym (ne_eqb n o (λ z. omega arith))
 
 -- ---- symbols
 

@@ -1,7 +1,8 @@
 -- A checked image, and answers by Option.
 use Rattle.std.specs.Prelude.{ℕ, List, Option, Some, None, eqb, ltb}
 use Rattle.rules.specs.Choice.{if}
-use Rattle.rules.specs.Image.{Image, Symbol, in_code, index, no_word}
+use Rattle.rules.specs.Address.{address_of}
+use Rattle.rules.specs.Image.{Image, Symbol, code_section, contains, in_code, index, no_word}
 use Rattle.rules.specs.Given.{symbol_of}
 use Rattle.obj_image.specs.Lent.{Lent, lent, symbol_row, image}
 use Rattle.obj_info.specs.declared.info.ObjInfo.{ObjInfo}
@@ -25,6 +26,10 @@ some_word n = if (ltb n no_word) (Some n) None
 -- which of the code words lies at an address, if one does
 abbrev pub index_in_code : Image → ℕ → Option ℕ
 index_in_code im k = if (in_code im k) (Some (index im k)) None
+
+-- the same by the 32-bit address alone
+abbrev pub index_within : Image → ℕ → Option ℕ
+index_within im k = if (contains (code_section im) (address_of k)) (Some (index im k)) None
 
 -- the symbol of three numbers
 abbrev pub symbol_in : List ℕ → Symbol

@@ -91,7 +91,7 @@ all_append : {A : Type 0} (p : A → Bool) (l m : List A) → rules.all p (l ++ 
 all_append p [] m = refl
 all_append p (x ∷ l) m = ap (λ (t : Bool). p x && t) (all_append p l m) ∙ sym (and_assoc (p x) (rules.all p l) (rules.all p m))
 
-row_kind : (r : Row) → (row_of r).kind ≡ r.kind
+pub row_kind : (r : Row) → (row_of r).kind ≡ r.kind
 unfolding if
 row_kind r = by_if (λ (x : OutcomeRow). x.kind ≡ r.kind) (leb 6 r.kind) (λ _. refl) (λ _. refl)
 

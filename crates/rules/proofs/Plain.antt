@@ -244,7 +244,7 @@ module _ (e : Around) (sound : Sound e.image) (k b : ℕ) (w : Walk) where
       let q : k + 4 * suc n ≡ k + 4 * n + 4 = omega arith in
       ap (images.index e.image) q ∙ next_index e.image sound (k + 4 * n) (p n (omega arith)).quick.inside ∙ ap suc (index_on n (fewer n p)) ∙ omega arith
 
-  leap_none : w.place ≡ at k b → leap e k b 0 w ≡ w
+  pub leap_none : w.place ≡ at k b → leap e k b 0 w ≡ w
   unfolding leap
   leap_none h =
       let q : k + 4 * 0 ≡ k = omega arith in

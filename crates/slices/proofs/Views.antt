@@ -1,11 +1,13 @@
 -- A list of a function changed within its limit, and options as the rules' numbers.
 use mathlib.Core.Path.{◌≡◌, refl, sym, ap, ◌∙◌}
 use mathlib.Core.List.{List, [], ◌∷◌}
-use mathlib.Core.Bool.{true, not}
-use Prim.Native.Nat.{ℕ, ◌-◌}
+use mathlib.Core.Bool.{Bool, true, false, not}
+use Prim.Native.Nat.{ℕ, ◌+◌, ◌-◌, ◌<◌, ◌≤◌}
 use native.Mathlib.Omega.{arith}
 use lib.ListN.{length}
-use borrow.Author.Tests.{ne_eqb}
+use borrow.Author.Tests.{ne_eqb, ltb-false}
+use lib.Dec.{ltb}
+use Rattle.std.proofs.lemmas.Bool.Decides.{nat_tests}
 use Rattle.std.specs.Prelude.{Option, Some, None, Result, Ok, Err, unwrap_or, slice_get, is_some}
 use Rattle.rules.specs.Choice.{Answer, ok, ◌>>=◌, if, if_false}
 use Rattle.rules.specs.Ordered.{self as own, empty, upper}
@@ -67,3 +69,16 @@ none_zero n e = rw (← e) refl
 
 pub some_value : (m n : ℕ) → m ≡ n → (m ≡ 0 → ⊥) → Some m ≡ some_nonzero n
 some_value m n e h = rw (← e) (sym (if_false (ne_eqb m 0 h) _ _))
+
+-- behind a word nothing is 0
+pub first_nonzero : (k : ℕ) (l : List ℕ) → 0 < k → first_from own k l ≡ some_nonzero (upper own k 0 l)
+unfolding if
+first_nonzero k [] h = refl
+first_nonzero k (x ∷ l) h = go (ltb x k) refl (first_nonzero k l h)
+  where
+    go : (b : Bool) → ltb x k ≡ b → first_from own k l ≡ some_nonzero (upper own k 0 l) → if b (first_from own k l) (Some x) ≡ some_nonzero (if b (upper own k 0 l) x)
+    go true e r = r
+    go false e r = let g : k ≤ x = ltb-false x k e in some_value x x refl (λ z. absurd (omega arith))
+
+pub up_to_word : (x k : ℕ) → ltb (x - k) 4 ≡ ltb x (k + 4)
+up_to_word x k = grind (arith, nat_tests)

@@ -1,7 +1,7 @@
 // A function's lists (`FunctionSlices`): its basic blocks, the ways on from its words, and what it refers to.
 #![tactic(auto)]
 
-ghost use Rattle.std.specs.Prelude.{◌≡◌, ◌<◌, ◌&&◌, [], IfOk, not, leb, length, is_some, option_map};
+ghost use Rattle.std.specs.Prelude.{◌≡◌, ◌<◌, ◌≤◌, ◌+◌, ◌&&◌, [], IfOk, not, leb, length, is_some, option_map};
 ghost use Rattle.rules.specs.Choice.{any};
 ghost use Rattle.rules.specs.Ordered.{self as own, has, upper, empty};
 ghost use Rattle.rules.specs.Blocks as blocks;
@@ -209,13 +209,26 @@ impl FunctionSlices {
     }
 
     /// The first possible block at `current` or above.
+    #[tactic(auto, unfolding(crate::specs::View::slices_of))]
     pub fn next_possible_block(&self, current: u64) -> Option<u64>
-        ensures { result ≡ some_nonzero (upper own current 0 (slices_of self.now).possible_blocks) }
+        ensures value { result ≡ some_nonzero (upper own current 0 (slices_of self.now).possible_blocks) }
+        ensures few { length (slices_of self.now).possible_blocks ≤ 128 }
     {
         let next = self.possible_blocks.first_from(current)?;
         if next == 0 {
             return None;
         }
         Some(next)
+    }
+
+    /// The first possible block behind the word at `block`. Where `block + 4` would overflow there is none.
+    #[tactic(auto, unfolding(crate::specs::View::slices_of))]
+    pub fn next_possible_block_behind(&self, block: u64) -> Option<u64>
+        ensures value { result ≡ some_nonzero (upper own (block + 4) 0 (slices_of self.now).possible_blocks) }
+        ensures few { length (slices_of self.now).possible_blocks ≤ 128 }
+    {
+        let blocks = self.possible_blocks.as_slice();
+        let at = blocks.partition_point(|next| next.saturating_sub(block) < 4);
+        blocks.get(at).copied()
     }
 }

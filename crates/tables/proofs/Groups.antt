@@ -1,17 +1,19 @@
 -- Ways grouped by the words that they are from: what a splice of pairs makes of the rows.
 use mathlib.Core.Path.{◌≡◌, refl, sym, ap, subst, ◌∙◌}
 use mathlib.Core.List.{List, [], ◌∷◌, ◌++◌, map}
-use Prim.Native.Nat.{ℕ, suc, ◌+◌, ◌<◌, ◌≤◌}
+use mathlib.Core.Bool.{true}
+use Prim.Native.Nat.{ℕ, zero, suc, ◌+◌, ◌-◌, ◌<◌, ◌≤◌}
 use native.Mathlib.Omega.{arith}
 use native.Mathlib.Decide.{ℕ_discrete, dec_lt}
-use lib.Dec.{ltb, eqb}
+use lib.Dec.{ltb, eqb, leb}
 use lib.ListN.{length, take, drop}
-use borrow.Author.Tests.{lt-ltb, le-ltb, eq-eqb, ne_eqb}
+use borrow.Author.Tests.{lt-ltb, le-ltb, eq-eqb, ne_eqb, leb-true, le-leb}
+use Rattle.std.specs.Prelude.{Some, slice_get}
 use Rattle.rules.specs.Choice.{if_true, if_false, by_if}
 use Rattle.rules.specs.Ordered.{rank, put, Above, Rising}
 use Rattle.rules.specs.Slices.{Branches, from_of, count_branches}
 use Rattle.tables.specs.declared.multimap.Way.{Way}
-use Rattle.tables.specs.Groups.{way, leaves, branches_of, add_way, grouped}
+use Rattle.tables.specs.Groups.{way, leaves, last_up_to, branches_of, add_way, grouped}
 
 -- rows of which the first is from k
 data Headed : ℕ → List Branches → Type 0 where
@@ -177,3 +179,52 @@ next_leaves p q l r = go (dec_lt q.from p.from)
 
 pub rising_rest : (p : Way) (l : List Way) → Rising from_of (grouped (p ∷ l)) → Rising from_of (grouped l)
 rising_rest p l r = rising_add p (grouped l) r
+
+-- the first pair, if there is one, is from k or above
+abbrev From : ℕ → List Way → Type 0
+From k [] = Unit {0}
+From k (q ∷ l) = k ≤ q.from
+
+on_rising : (p : Way) {k : ℕ} {g : List Branches} → p.from ≡ k → Headed k g → Rising from_of g → Rising from_of (add_way p g)
+on_rising p {k} e (headed {ts} {r}) rise =
+    let above : Above from_of p.from r = rw e rise.0 in
+    rw (add_same p (branches_of k ts) r e) (above, rise.1)
+
+rising_pair : (p : Way) (l : List Way) → From p.from l → Rising from_of (grouped l) → Rising from_of (grouped (p ∷ l))
+rising_pair p [] h r = (tt, tt)
+rising_pair p (q ∷ l) h r = go (ℕ_discrete p.from q.from)
+  where
+    go : Dec (p.from ≡ q.from) → Rising from_of (grouped (p ∷ q ∷ l))
+    go (yes e) = on_rising p e (add_headed q (grouped l)) r
+    go (no ne) = rw (add_apart p ne (add_headed q (grouped l))) (above_headed p.from (omega arith) (add_headed q (grouped l)), r)
+
+from_take : (p : Way) (n : ℕ) (l : List Way) → Rising from_of (grouped (p ∷ l)) → From p.from (take n l)
+from_take p zero l r = tt
+from_take p (suc n) [] r = tt
+from_take p (suc n) (q ∷ l) r = next_leaves p q l r
+
+-- the first pairs of some that ascend
+pub take_pairs : (n : ℕ) (l : List Way) → Rising from_of (grouped l) → Rising from_of (grouped (take n l))
+take_pairs zero l r = tt
+take_pairs (suc n) [] r = tt
+take_pairs (suc n) (p ∷ l) r = rising_pair p (take n l) (from_take p n l r) (take_pairs n l (rising_rest p l r))
+
+-- whether a pair may stand behind others
+pub behind_pairs : (p : Way) (l : List Way) → Rising from_of (grouped l) → last_up_to p.from l ≡ true → Rising from_of (grouped (l ++ (p ∷ [])))
+behind_pairs p [] r h = (tt, tt)
+behind_pairs p (q ∷ []) r h = rising_pair q (p ∷ []) (leb-true _ _ h) (tt, tt)
+behind_pairs p (q ∷ s ∷ l) r h = rising_pair q (s ∷ (l ++ (p ∷ []))) (next_leaves q s l r) (behind_pairs p (s ∷ l) (rising_rest q (s ∷ l) r) h)
+
+pub last_pairs : (p : Way) (l : List Way) → Rising from_of (grouped (l ++ (p ∷ []))) → last_up_to p.from l ≡ true
+last_pairs p [] r = refl
+last_pairs p (q ∷ []) r = le-leb _ _ (next_leaves q p [] r)
+last_pairs p (q ∷ s ∷ l) r = last_pairs p (s ∷ l) (rising_rest q (s ∷ (l ++ (p ∷ []))) r)
+
+-- by the last pair as it is read
+pub last_read : (k : ℕ) (p : Way) (l : List Way) → slice_get l (length l - 1) ≡ Some p → leb p.from k ≡ last_up_to k l
+last_read k p [] e = cc
+last_read k p (q ∷ []) e = let same : q ≡ p = cc in rw same refl
+last_read k p (q ∷ s ∷ l) e =
+    let one : length (s ∷ l) - 1 ≡ length l = omega arith in
+    let two : length (q ∷ s ∷ l) - 1 ≡ suc (length l) = omega arith in
+    last_read k p (s ∷ l) (ap (slice_get (s ∷ l)) one ∙ (rw two at e))

@@ -1,3 +1,5 @@
 pub mod Places
 pub mod Groups
 pub mod Splices
+pub mod Columns
+pub mod Kept

@@ -8,7 +8,7 @@ use native.Mathlib.Decide.{dec_lt}
 use lib.Dec.{ltb, eqb}
 use lib.ListN.{length, take, drop, get_or, set, length-set}
 use Rattle.std.proofs.Math.Seq.{take-append_seam}
-use borrow.Author.Tests.{eq-eqb, ne_eqb, lt-leb, le-leb}
+use borrow.Author.Tests.{eq-eqb, ne_eqb, lt-leb, le-leb, ltb-true, ltb-false}
 use Rattle.std.specs.Prelude.{Option, Some, None, Result, Ok, Err, slice_get, unwrap_or}
 use Rattle.std.specs.Ordering.{nat_cmp, ordering_index, MatchOrdering}
 use Rattle.std.specs.declared.cmp.Ordering.TheVariants.{Less, Equal, Greater}
@@ -47,7 +47,7 @@ remove_at_split zero (x ∷ l) = refl
 remove_at_split (suc i) (x ∷ l) = ap (λ r. x ∷ r) (remove_at_split i l)
 
 module _ {A : Type 0} (key : A → ℕ) where
-  rising_le : (d : A) (l : List A) (i j : ℕ) → Rising key l → i ≤ j → j < length l → key (get_or l i d) ≤ key (get_or l j d)
+  pub rising_le : (d : A) (l : List A) (i j : ℕ) → Rising key l → i ≤ j → j < length l → key (get_or l i d) ≤ key (get_or l j d)
   rising_le d l i j r h b = go (dec_lt i j)
     where
       go : Dec (i < j) → key (get_or l i d) ≤ key (get_or l j d)
@@ -79,6 +79,10 @@ module _ {A : Type 0} (key : A → ℕ) where
   pub place : (d : A) (k : ℕ) (l : List A) (r : Result ℕ ℕ) → Rising key l → IsSearchInRange r (length l) → IsBinarySearchResult (λ y. nat_cmp (key y) k) l r → IsPlace key k l r
   place d k l (Ok i) up range is = placed d k i l up range (is d)
   place d k l (Err i) up range is = missed d k i l up range is
+
+  -- where the keys below k end
+  pub first_place : (d : A) (k i : ℕ) (l : List A) → i ≤ length l → IsPartitionPoint (λ y. ltb (key y) k ≡ true) (λ y. ltb (key y) k ≡ false) l i → i ≡ rank key k l
+  first_place d k i l h p = sym (rank_is key d k l i h (λ j b. ltb-true _ _ (p.0 j d (omega arith) b)) (λ b. ltb-false _ _ (p.1 i d (omega arith) b)))
 
   pub place_le : (k i : ℕ) (l : List A) → i ≡ rank key k l → i ≤ length l
   place_le k i l e = omega (arith, rank_le key k l)

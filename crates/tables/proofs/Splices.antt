@@ -5,12 +5,12 @@ use mathlib.Core.Bool.{true, false}
 use Prim.Native.Nat.{ℕ, zero, suc, ◌+◌, ◌-◌, ◌<◌, ◌≤◌}
 use native.Mathlib.Omega.{arith}
 use native.Mathlib.Nat.{le_of_suc-le-suc}
-use lib.Dec.{ltb, leb}
+use lib.Dec.{leb}
 use lib.ListN.{length, take, drop, get_or, length-append, length-map, length-drop, drop_of_length-le}
 use lib.Seq.{length-take-le, take_at, drop_at}
 use Rattle.std.proofs.Math.Seq.{take-length}
 use Rattle.std.proofs.lemmas.List.{append-nil}
-use borrow.Author.Tests.{ltb-true, ltb-false, leb-true, leb-false, lt-leb, le-leb}
+use borrow.Author.Tests.{leb-true, leb-false, lt-leb, le-leb}
 use Rattle.std.specs.List.{replace_range, refill}
 use Rattle.std.specs.List.Sorted.{IsNonDecreasingBy, IsPartitionPoint}
 use Rattle.rules.specs.Choice.{if_true, if_false, ok, fault}
@@ -34,10 +34,7 @@ leaves_rise (p ∷ l) r zero (suc j) d le h = first_le p l j d r (le_of_suc-le-s
 leaves_rise (p ∷ l) r (suc i) zero d le h = absurd (omega arith)
 leaves_rise (p ∷ l) r (suc i) (suc j) d le h = leaves_rise l (rising_rest p l r) i j d (le_of_suc-le-suc le) (le_of_suc-le-suc h)
 
--- the places between which a word's ways on stand
-pub first_place : (k i : ℕ) (l : List Way) → i ≤ length l → IsPartitionPoint (λ w. ltb (leaves w) k ≡ true) (λ w. ltb (leaves w) k ≡ false) l i → i ≡ rank leaves k l
-first_place k i l h p = sym (rank_is leaves (way 0 0) k l i h (λ j b. ltb-true _ _ (p.0 j (way 0 0) (omega arith) b)) (λ b. ltb-false _ _ (p.1 i (way 0 0) (omega arith) b)))
-
+-- where those that leave a word or one below it end
 pub past_place : (k i : ℕ) (l : List Way) → i ≤ length l → IsPartitionPoint (λ w. leb (leaves w) k ≡ true) (λ w. leb (leaves w) k ≡ false) l i → i ≡ rank leaves (suc k) l
 past_place k i l h p =
     sym (rank_is leaves (way 0 0) (suc k) l i h

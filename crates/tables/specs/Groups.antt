@@ -1,5 +1,5 @@
 -- Ways on as pairs, (from, to), in order: consecutive pairs from one word are that word's ways on.
-use Rattle.std.specs.Prelude.{List, [], ◌∷◌, ℕ, eqb, leb}
+use Rattle.std.specs.Prelude.{List, [], ◌∷◌, ℕ, Bool, true, eqb, leb}
 use Rattle.rules.specs.Choice.{if, Answer, ok, fault}
 use Rattle.rules.specs.Slices.{Branches, count_branches}
 use Rattle.tables.specs.declared.multimap.Way.{Way}
@@ -10,6 +10,16 @@ way f t = record { from = f; to = t }
 -- the word that a way on leaves
 abbrev pub leaves : Way → ℕ
 leaves w = w.from
+
+-- the word that it goes to
+abbrev pub goes_to : Way → ℕ
+goes_to w = w.to
+
+-- whether the last of them, if there is one, is from k or below
+abbrev pub last_up_to : ℕ → List Way → Bool
+last_up_to k [] = true
+last_up_to k (p ∷ []) = leb p.from k
+last_up_to k (p ∷ q ∷ l) = last_up_to k (q ∷ l)
 
 abbrev pub branches_of : ℕ → List ℕ → Branches
 branches_of f l = record { from = f; targets = l }

@@ -1,10 +1,11 @@
 // Values by address.
 
-ghost use Rattle.std.specs.Prelude.{◌≡◌, ◌≤◌, ◌-◌, [], length, option_map, slice_get};
+ghost use Rattle.std.specs.Prelude.{◌≡◌, ◌≤◌, ◌-◌, List, [], length, map, option_map, slice_get};
 ghost use Rattle.rules.specs.Choice.{limited};
 ghost use Rattle.rules.specs.Ordered.{rank, has, put, Rising};
 ghost use Rattle.faults.specs.Outcome.{outcome};
-ghost use Rattle.tables.specs.Places.{IsPlace, row_of, last_below};
+ghost use Rattle.tables.specs.declared.maps.Row.{Row as Rows};
+ghost use Rattle.tables.specs.Places.{IsPlace, row_of, first_from, last_below};
 ghost use Rattle.tables.specs.Rows.{row, key_of, value_of};
 
 use arrayvec::ArrayVec;
@@ -64,8 +65,8 @@ impl<const N: usize> Map<N> {
         self.rows.len()
     }
 
-    // Where the row with a key is, or where it would go.
-    fn search(&self, key: u64) -> Result<usize, usize>
+    /// Where the row with a key is, or where it would go.
+    pub fn position(&self, key: u64) -> Result<usize, usize>
         ensures place { IsPlace key_of key self.now result }
         ensures fits { length self.now ≤ N }
         ensures rising { Rising key_of self.now }
@@ -73,12 +74,12 @@ impl<const N: usize> Map<N> {
         self.rows.binary_search_by_key(&key, |row| row.key)
     }
 
-    // How many keys are below `key`.
-    fn rank(&self, key: u64) -> usize
+    /// How many keys are below `key`.
+    pub fn rank(&self, key: u64) -> usize
         ensures value { result ≡ rank key_of key self.now }
         ensures fits { result ≤ length self.now }
     {
-        self.search(key).unwrap_or_else(|at| at)
+        self.position(key).unwrap_or_else(|at| at)
     }
 
     /// Whether there is a row with a key.
@@ -87,14 +88,14 @@ impl<const N: usize> Map<N> {
         ensures fits { length self.now ≤ N }
         ensures rising { Rising key_of self.now }
     {
-        self.search(key).is_ok()
+        self.position(key).is_ok()
     }
 
     /// The value of a key.
     pub fn get(&self, key: u64) -> Option<u64>
         ensures { result ≡ option_map value_of (row_of key_of key self.now) }
     {
-        match self.search(key) {
+        match self.position(key) {
             Ok(at) => Some(self.rows[at].value),
             Err(_) => None,
         }
@@ -104,7 +105,7 @@ impl<const N: usize> Map<N> {
     pub fn insert(&mut self, key: u64, value: u64) -> Result<(), Fault>
         ensures { outcome self.new result ≡ limited N (put key_of (row key value) self.old) }
     {
-        match self.search(key) {
+        match self.position(key) {
             Ok(at) => {
                 self.rows[at] = Row { key, value };
                 Ok(())
@@ -126,6 +127,13 @@ impl<const N: usize> Map<N> {
         self.rows[..self.rank(key)].last().copied()
     }
 
+    /// The first row whose key is `key` or more.
+    pub fn first_from(&self, key: u64) -> Option<Row>
+        ensures { result ≡ first_from key_of key self.now }
+    {
+        self.rows.get(self.rank(key)).copied()
+    }
+
     /// The first row.
     pub fn first(&self) -> Option<Row>
         ensures { result ≡ slice_get self.now 0 }
@@ -138,6 +146,21 @@ impl<const N: usize> Map<N> {
         ensures { result ≡ slice_get self.now (length self.now - 1) }
     {
         self.rows.last().copied()
+    }
+
+    /// Rows by a column of their keys and one of their values, instead of those that are there, as far as they fit.
+    pub fn assign(&mut self, keys: &[u64], values: &[u64])
+        ensures { (rows : List Rows) →
+            Rising key_of rows →
+            length rows ≤ N →
+            keys.now ≡ map key_of rows →
+            values.now ≡ map value_of rows →
+            self.new ≡ rows }
+    {
+        self.clear();
+        for (&key, &value) in keys.iter().zip(values) {
+            let _fits = self.insert(key, value);
+        }
     }
 
     /// Takes all of them out.

@@ -1,11 +1,12 @@
 // The ways on from words: some addresses for each word.
 
-ghost use Rattle.std.specs.Prelude.{◌≡◌, ◌+◌, ◌-◌, ◌<◌, ◌≤◌, [], suc, length, map};
+ghost use Rattle.std.specs.Prelude.{◌≡◌, ◌+◌, ◌-◌, ◌<◌, ◌≤◌, List, [], ◌∷◌, ◌++◌, suc, length, map};
 ghost use Rattle.std.specs.List.{replace_range};
 ghost use Rattle.rules.specs.Ordered.{rank, put, Rising};
 ghost use Rattle.rules.specs.Slices.{from_of, count_branches};
 ghost use Rattle.faults.specs.Outcome.{outcome};
-ghost use Rattle.tables.specs.Groups.{way, leaves, branches_of, grouped, limited_ways};
+ghost use Rattle.tables.specs.declared.multimap.Way.{Way as Pair};
+ghost use Rattle.tables.specs.Groups.{way, leaves, goes_to, last_up_to, branches_of, grouped, limited_ways};
 
 use arrayvec::ArrayVec;
 use faults::Fault;
@@ -64,6 +65,22 @@ impl<const N: usize> Ways<N> {
         self.ways.len()
     }
 
+    /// Ways on by a column of the words that they are from and one of where they go, instead of those that are there, as far as they fit.
+    pub fn assign(&mut self, froms: &[u64], tos: &[u64])
+        ensures { (ways : List Pair) →
+            Rising from_of (grouped ways) →
+            length ways ≤ N →
+            froms.now ≡ map leaves ways →
+            tos.now ≡ map goes_to ways →
+            self.new ≡ grouped ways }
+    {
+        let mut ways = ArrayVec::new();
+        for (&from, &to) in froms.iter().zip(tos) {
+            push(&mut ways, Way { from, to });
+        }
+        self.ways = ways;
+    }
+
     /// Takes all of them out.
     pub fn clear(&mut self)
         ensures { self.new ≡ [] }
@@ -84,6 +101,27 @@ impl<const N: usize> Ways<N> {
         }
         replace(&mut self.ways, at, until, from, targets);
         Ok(())
+    }
+}
+
+// Whether a way on may stand behind others: none of theirs is from a word above its own.
+fn may_follow(ways: &[Way], way: Way) -> bool
+    ensures { result ≡ last_up_to way.from ways.now }
+{
+    match ways.last() {
+        Some(last) => last.from <= way.from,
+        None => true,
+    }
+}
+
+// Puts a way on behind the others, if it may stand there and there is room.
+fn push<const N: usize>(ways: &mut ArrayVec<Way, N>, way: Way)
+    requires { Rising from_of (grouped ways.old.items) }
+    ensures rising { Rising from_of (grouped ways.new.items) }
+    ensures pushed { Rising from_of (grouped (ways.old.items ++ way ∷ [])) → length ways.old.items < N → ways.new.items ≡ ways.old.items ++ way ∷ [] }
+{
+    if may_follow(ways, way) && !ways.is_full() {
+        ways.push(way);
     }
 }
 

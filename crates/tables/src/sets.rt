@@ -1,7 +1,7 @@
 // Addresses.
 
-ghost use Rattle.std.specs.Prelude.{◌≡◌, ◌≤◌, ◌&&◌, leb, [], length};
-ghost use Rattle.rules.specs.Choice.{any, limited};
+ghost use Rattle.std.specs.Prelude.{◌≡◌, ◌≤◌, ◌&&◌, not, leb, ltb, [], length};
+ghost use Rattle.rules.specs.Choice.{any, filter, limited};
 ghost use Rattle.rules.specs.Ordered.{self as own, rank, has, put, without, empty, Rising};
 ghost use Rattle.faults.specs.Outcome.{outcome};
 ghost use Rattle.tables.specs.Places.{IsPlace, first_from};
@@ -71,7 +71,8 @@ impl<const N: usize> Set<N> {
 
     // How many are below `key`.
     fn rank(&self, key: u64) -> usize
-        ensures { result ≡ rank own key self.now }
+        ensures value { result ≡ rank own key self.now }
+        ensures fits { length self.now ≤ N }
     {
         self.search(key).unwrap_or_else(|at| at)
     }
@@ -108,9 +109,20 @@ impl<const N: usize> Set<N> {
         }
     }
 
+    /// Takes out the addresses from `low` to just below `past`. Whether there was one.
+    pub fn remove_within(&mut self, low: u64, past: u64) -> bool
+        ensures rest { self.new ≡ filter (λ x. not (leb low x && ltb x past)) self.old }
+        ensures some { result ≡ any (λ x. leb low x && ltb x past) self.old }
+    {
+        let before = self.items.len();
+        self.items.retain(|item| !(low <= *item && *item < past));
+        self.items.len() < before
+    }
+
     /// The first that is `key` or more.
     pub fn first_from(&self, key: u64) -> Option<u64>
-        ensures { result ≡ first_from own key self.now }
+        ensures value { result ≡ first_from own key self.now }
+        ensures fits { length self.now ≤ N }
     {
         self.items.get(self.rank(key)).copied()
     }
@@ -127,6 +139,16 @@ impl<const N: usize> Set<N> {
         ensures { self.new ≡ [] }
     {
         self.items.clear();
+    }
+
+    /// The addresses of a list instead of those that are there, as far as they fit.
+    pub fn assign(&mut self, items: &[u64])
+        ensures { Rising own items.now → length items.now ≤ N → self.new ≡ items.now }
+    {
+        self.clear();
+        for &item in items {
+            let _fits = self.insert(item);
+        }
     }
 
     /// The addresses of another set instead of those that are there.

@@ -1,9 +1,9 @@
 -- The words of the code section, read from its bytes.
-use Rattle.std.proofs.Common.{◌≡◌, ℕ, zero, suc, ◌+◌, ◌-◌, ◌*◌, ◌/◌, ◌%◌, ◌<◌, ◌≤◌, refl, sym, ap, ◌∙◌, Bool, true, List, [], ◌∷◌, length, map, take, drop, get_or, min, eqb, leb, arith}
+use Rattle.std.proofs.Common.{◌≡◌, ℕ, zero, suc, ◌+◌, ◌-◌, ◌*◌, ◌/◌, ◌%◌, ◌<◌, ◌≤◌, refl, sym, ap, ◌∙◌, Bool, true, List, [], ◌∷◌, length, map, take, drop, get_or, min, leb, arith}
 use Rattle.std.proofs.lemmas.List.{take_min}
-use borrow.Author.Tests.{eqb-true, leb-true, ltb-true}
+use borrow.Author.Tests.{leb-true, ltb-true}
 use Rattle.rules.specs.Choice.{if, if_true, any}
-use Rattle.rules.specs.Address.{address_of, section_of}
+use Rattle.rules.specs.Address.{address_of}
 use Rattle.rules.specs.Bytes.{words_in, words_at}
 use Rattle.rules.specs.Image as images
 use Rattle.rules.specs.Image.{Image, code_section, code_number, contains, in_code, index, words_from, words_between, no_word}
@@ -13,55 +13,43 @@ use Rattle.rules.proofs.Bytes as bytes
 use Rattle.rules.proofs.Passes.{checked_of}
 use Rattle.rules.proofs.Tests.{and_left, and_right}
 use Rattle.obj_image.specs.Lent.{Lent, given, image}
-use Rattle.obj.specs.Sections.{IsCode}
-use Rattle.obj.specs.declared.sections.Code.{Code}
-use Rattle.obj_info.proofs.Lookups.{number_small}
 use Rattle.jump_tables.specs.Readings.{number_in}
 use Rattle.jump_tables.proofs.Chunks.{words_drop}
 use Rattle.walks.specs.Code.{IsWordStart}
 
 -- ---- an address of code
 
-module _ (im : Image) (k : ℕ) (h : in_code im k ≡ true) where
-  pub inside : contains (code_section im) (address_of k) ≡ true
-  unfolding in_code
-  inside = and_right (eqb (section_of k) (code_number im)) _ h
-
+module _ (im : Image) (k : ℕ) (inside : contains (code_section im) (address_of k) ≡ true) where
   pub above : (code_section im).base ≤ address_of k
   above = leb-true _ _ (and_left _ _ inside)
 
   pub below : address_of k < (code_section im).base + (code_section im).size
   below = ltb-true _ _ (and_right (leb (code_section im).base (address_of k)) _ inside)
 
-  pub of_code : section_of k ≡ code_number im
-  unfolding in_code
-  of_code = eqb-true _ _ (and_left _ _ h)
-
   pub word_start : (base a at : ℕ) → base ≡ (code_section im).base → a ≡ address_of k → at ≡ a - (a - base) % 4 → IsWordStart im k at
   word_start base a at e f g = record { low = above; at = omega (arith, above) }
 
-  -- the word there, of as many bytes as there are
-  pub word_is : (b : List ℕ) (i w : ℕ) (ws : List ℕ) → words_in b ≡ (code_section im).words → i ≡ (address_of k - (code_section im).base) / 4 → words_in (drop (i * 4) b) ≡ w ∷ ws → w ≡ images.word im (address_of k)
+  -- the word there, by its number
+  pub word_is : (i w : ℕ) → i ≡ (address_of k - (code_section im).base) / 4 → w ≡ get_or (code_section im).words i no_word → w ≡ images.word im (address_of k)
   unfolding images.word index
-  word_is b i w ws words at e =
+  word_is i w at e =
       let twice : address_of k % 0x1_0000_0000 ≡ address_of k = omega arith in
-      let here : drop i (words_in b) ≡ w ∷ ws = words_drop i b ∙ e in
       let same : (address_of k % 0x1_0000_0000 - (code_section im).base) / 4 ≡ i = rw twice (sym at) in
-      sym (if_true inside _ _ ∙ ap (λ (n : ℕ). get_or (code_section im).words n no_word) same ∙ ap (λ (l : List ℕ). get_or l i no_word) (sym words) ∙ first_of i (words_in b) here)
-    where
-      first_of : (i : ℕ) (l : List ℕ) → drop i l ≡ w ∷ ws → get_or l i no_word ≡ w
-      first_of zero [] e = cc
-      first_of zero (x ∷ l) e = cc
-      first_of (suc i) [] e = cc
-      first_of (suc i) (x ∷ l) e = first_of i l e
+      sym (if_true inside _ _ ∙ ap (λ (n : ℕ). get_or (code_section im).words n no_word) same ∙ sym e)
 
--- how low it is, and that the section is whole words
-module _ (l : Lent) (checked : check (given l) ≡ 0) (c : Code) (code : IsCode l c) where
-  pub key_low : (k : ℕ) → in_code (image l) k ≡ true → k < 0x10_0000_0000
-  key_low k h = omega (arith, (number_small l checked c code).0, code.number, of_code (image l) k h)
+-- the word with a number
+pub nth_is : (b ws : List ℕ) (i w : ℕ) (rest : List ℕ) → words_in b ≡ ws → words_in (drop (i * 4) b) ≡ w ∷ rest → w ≡ get_or ws i no_word
+nth_is b ws i w rest words e = sym (ap (λ (l : List ℕ). get_or l i no_word) (sym words) ∙ first_of i (words_in b) (words_drop i b ∙ e))
+  where
+    first_of : (i : ℕ) (l : List ℕ) → drop i l ≡ w ∷ rest → get_or l i no_word ≡ w
+    first_of zero [] e = cc
+    first_of zero (x ∷ l) e = cc
+    first_of (suc i) [] e = cc
+    first_of (suc i) (x ∷ l) e = first_of i l e
 
-  pub whole_words : (code_section (image l)).size % 4 ≡ 0
-  whole_words = (checked_of (given l) checked).sound.aligned
+-- the section is whole words
+pub whole_words : (l : Lent) → check (given l) ≡ 0 → (code_section (image l)).size % 4 ≡ 0
+whole_words l checked = (checked_of (given l) checked).sound.aligned
 
 -- ---- the words from an address on
 

@@ -1,5 +1,5 @@
 -- Words of which nothing is noted, and what is noted of a word before it does what it does.
-use Rattle.std.proofs.Common.{◌≡◌, ℕ, zero, suc, ◌-◌, ◌/◌, ◌%◌, refl, sym, ap, ◌∙◌, Bool, true, false, ◌&&◌, ◌||◌, not, List, [], ◌∷◌, drop, get_or, eqb, arith}
+use Rattle.std.proofs.Common.{◌≡◌, ℕ, zero, suc, ◌-◌, ◌/◌, refl, sym, ap, ◌∙◌, Bool, true, false, ◌&&◌, ◌||◌, not, List, [], ◌∷◌, drop, get_or, eqb, arith}
 use mathlib.Core.Bool.{or-false, false≢true}
 use borrow.Author.Tests.{not-true}
 use Rattle.rules.specs.Choice.{if, if_true, if_false, Answer, ok, fault, ◌>>=◌}
@@ -13,7 +13,6 @@ use Rattle.rules.specs.Slices.{Slices, discard_possible_block, with_returns, wit
 use Rattle.rules.specs.Step as rules
 use Rattle.rules.proofs.Tests.{and_left, and_right}
 use Rattle.walks.specs.Noted.{plain, noted}
-use Rattle.walks.proofs.CodeWords.{inside}
 
 -- ---- by the primary opcode
 
@@ -87,12 +86,12 @@ empty_epilogue = refl
 
 -- ---- a word of the image
 
-module _ (im : Image) (addr w : ℕ) (here_in : images.in_code im addr ≡ true) (is_w : w ≡ images.word im (address_of addr)) (h : plain w ≡ true) where
+module _ (im : Image) (addr w : ℕ) (here_in : images.contains (code_section im) (address_of addr) ≡ true) (is_w : w ≡ images.word im (address_of addr)) (h : plain w ≡ true) where
   here : w ≡ get_or (code_section im).words (images.index im addr) images.no_word
   unfolding images.word images.index
   here =
       let m : address_of (address_of addr) ≡ address_of addr = omega arith in
-      is_w ∙ if_true (inside im addr here_in) _ _ ∙ ap (λ (a : ℕ). get_or (code_section im).words ((a - (code_section im).base) / 4) images.no_word) m
+      is_w ∙ if_true here_in _ _ ∙ ap (λ (a : ℕ). get_or (code_section im).words ((a - (code_section im).base) / 4) images.no_word) m
 
   quiet_prologue : sequences.check_prologue_sequence (images.words_from im addr) ≡ false
   unfolding images.words_from

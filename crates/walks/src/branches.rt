@@ -76,7 +76,7 @@ impl Walk {
     }
 
     /// The branches of a list, one after the other, and the ways on, where there are any.
-    pub(crate) fn do_branches(
+    pub fn do_branches(
         &mut self,
         around: &Around,
         addr: u64,

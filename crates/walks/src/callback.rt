@@ -27,7 +27,7 @@ impl Walk {
         word: u32,
         outcome: Outcome,
     ) -> Result<(), Fault>
-        requires { addr < 0x10_0000_0000 }
+        requires { address_of addr < 0xF000_0000 }
         ensures { (es : List Entry) →
             Knows around.now.known.now es →
             word ≡ images.word (image_of around.now.obj) (address_of addr) →
@@ -59,7 +59,7 @@ impl Walk {
         word: u32,
         outcome: Outcome,
     ) -> Result<(), Fault>
-        requires { addr < 0x10_0000_0000 }
+        requires { address_of addr < 0xF000_0000 }
         ensures { (es : List Entry) →
             Knows around.now.known.now es →
             word ≡ images.word (image_of around.now.obj) (address_of addr) →
@@ -88,7 +88,7 @@ impl Walk {
         word: u32,
         outcome: Outcome,
     ) -> Result<(), Fault>
-        requires { addr < 0x10_0000_0000 }
+        requires { address_of addr < 0xF000_0000 }
         ensures { (es : List Entry) →
             Knows around.now.known.now es →
             word ≡ images.word (image_of around.now.obj) (address_of addr) →
@@ -102,14 +102,14 @@ impl Walk {
         self.do_outcome(around, addr, block, word, outcome)
     }
 
-    /// The word at `addr`, in the block that starts at `block`.
+    /// The word at `addr`, in the block that starts at `block`. It lies in the code section, whatever section its key names.
     pub fn instruction_callback(
         &mut self,
         around: &Around,
         addr: u64,
         block: u64,
     ) -> Result<(), Fault>
-        requires { images.in_code (image_of around.now.obj) addr ≡ true }
+        requires { images.contains (images.code_section (image_of around.now.obj)) (address_of addr) ≡ true }
         ensures { (es : List Entry) →
             Knows around.now.known.now es →
             told (walk_of self.new) result ≡ rules.instruction_callback (around_of around.now es) addr block (walk_of self.old) }

@@ -1,5 +1,5 @@
 // The words of the code section, and what begins there.
-ghost use Rattle.std.specs.Prelude.{◌≡◌, map, true};
+ghost use Rattle.std.specs.Prelude.{◌≡◌, ◌<◌, get_or, map, true};
 ghost use Rattle.rules.specs.Address.{address_of};
 ghost use Rattle.rules.specs.Choice.{any};
 ghost use Rattle.rules.specs.Image as images;
@@ -20,18 +20,26 @@ fn words<'a>(obj: &ObjInfo<'a>) -> &'a [[u8; 4]]
     obj.code_bytes().as_chunks::<4>().0
 }
 
+/// The code word with a number, counted from 0.
+pub fn nth_word(obj: &ObjInfo, word: usize) -> u32
+    requires { word < images.code_words (image_of obj.now) }
+    ensures { result ≡ get_or (images.code_section (image_of obj.now)).words word images.no_word }
+{
+    word_at(obj.code_bytes(), word * 4)
+}
+
 /// The word at an address.
 pub fn word_in(obj: &ObjInfo, addr: u64) -> u32
-    requires { images.in_code (image_of obj.now) addr ≡ true }
+    requires { images.contains (images.code_section (image_of obj.now)) (address_of addr) ≡ true }
     ensures { result ≡ images.word (image_of obj.now) (address_of addr) }
 {
-    let index = ((addr % 0x1_0000_0000) as u32 - obj.code().base) as usize / 4;
-    word_at(obj.code_bytes(), index * 4)
+    let word = ((addr % 0x1_0000_0000) as u32 - obj.code().base) as usize / 4;
+    nth_word(obj, word)
 }
 
 // Where the word at an address begins.
 fn word_start(obj: &ObjInfo, addr: u64) -> u32
-    requires { images.in_code (image_of obj.now) addr ≡ true }
+    requires { images.contains (images.code_section (image_of obj.now)) (address_of addr) ≡ true }
     ensures { IsWordStart (image_of obj.now) addr result }
 {
     let a = (addr % 0x1_0000_0000) as u32;
@@ -40,7 +48,7 @@ fn word_start(obj: &ObjInfo, addr: u64) -> u32
 
 /// Whether a prologue begins at an address.
 pub fn begins_prologue(obj: &ObjInfo, addr: u64) -> bool
-    requires { images.in_code (image_of obj.now) addr ≡ true }
+    requires { images.contains (images.code_section (image_of obj.now)) (address_of addr) ≡ true }
     ensures { result ≡ rules.check_prologue_sequence (images.words_from (image_of obj.now) addr) }
 {
     check_prologue_sequence(obj.code_bytes(), obj.code().base, word_start(obj, addr))
@@ -48,7 +56,7 @@ pub fn begins_prologue(obj: &ObjInfo, addr: u64) -> bool
 
 /// Whether an epilogue begins at an address.
 pub fn begins_epilogue(obj: &ObjInfo, addr: u64) -> bool
-    requires { images.in_code (image_of obj.now) addr ≡ true }
+    requires { images.contains (images.code_section (image_of obj.now)) (address_of addr) ≡ true }
     ensures { result ≡ rules.check_epilogue_sequence (images.words_from (image_of obj.now) addr) }
 {
     check_epilogue_sequence(obj.code_bytes(), obj.code().base, word_start(obj, addr))

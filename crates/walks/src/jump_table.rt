@@ -1,5 +1,6 @@
 // The entries of a jump table, as a walk takes them.
 ghost use Rattle.std.specs.Prelude.{◌≡◌, ◌<◌, List, length, true};
+ghost use Rattle.rules.specs.Address.{address_of};
 ghost use Rattle.rules.specs.Choice.{any};
 ghost use Rattle.rules.specs.Known.{Entry};
 ghost use Rattle.rules.specs.Step as rules;
@@ -18,7 +19,7 @@ use jump_tables::{JumpTable, uniq_jump_table_entries};
 impl Walk {
     // Whether an entry lies among the blocks of the function: behind its start, and no further than the last block or the next word.
     fn table_inside(&self, around: &Around, addr: u64, entries: &[u64]) -> bool
-        requires { addr < 0x10_0000_0000 }
+        requires { address_of addr < 0xF000_0000 }
         ensures { (es : List Entry) →
             result ≡ rules.table_inside (around_of around.now es) addr entries.now (slices_of self.now.slices) }
     {
@@ -41,7 +42,7 @@ impl Walk {
 
     // Whether the entries are blocks of the function: one lies among them, and none in another known function.
     fn is_own_table(&self, around: &Around, addr: u64, entries: &[u64]) -> bool
-        requires { addr < 0x10_0000_0000 }
+        requires { address_of addr < 0xF000_0000 }
         ensures own { (es : List Entry) →
             Knows around.now.known.now es →
             result ≡ rules.is_own_table (around_of around.now es) addr entries.now (slices_of self.now.slices) }
@@ -72,14 +73,14 @@ impl Walk {
     }
 
     /// The jump table at `target`, with a size or 0.
-    pub(crate) fn do_table(
+    pub fn do_table(
         &mut self,
         around: &Around,
         addr: u64,
         target: u64,
         size: u32,
     ) -> Result<(), Fault>
-        requires { addr < 0x10_0000_0000 }
+        requires { address_of addr < 0xF000_0000 }
         ensures { (es : List Entry) →
             Knows around.now.known.now es →
             outcome (walk_of self.new) result ≡ rules.do_table (around_of around.now es) addr target size (walk_of self.old) }

@@ -26,8 +26,8 @@ fn is_below(addr: u64, end: Option<u64>) -> bool
     end.is_some_and(|end| addr < end)
 }
 
-// Whether a prologue or an epilogue was met; 0 is no address.
-fn is_recorded(at: Option<u64>) -> bool
+/// Whether a prologue or an epilogue was met; 0 is no address.
+pub fn is_recorded(at: Option<u64>) -> bool
     ensures { result ≡ not (eqb (or_zero at) 0) }
 {
     at.is_some_and(|at| at != 0)
@@ -52,7 +52,7 @@ impl Walk {
     }
 
     /// The function at or around an address.
-    pub(crate) fn known_function(&self, around: &Around, addr: u64) -> Option<u64>
+    pub fn known_function(&self, around: &Around, addr: u64) -> Option<u64>
         ensures { (es : List Entry) →
             Knows around.now.known.now es →
             result ≡ some_nonzero (rules.known_function (around_of around.now es) addr (slices_of self.now.slices)) }
@@ -64,7 +64,7 @@ impl Walk {
     }
 
     /// Whether an address belongs to a known function that is not the walked one.
-    pub(crate) fn is_known_function(&self, around: &Around, addr: u64) -> bool
+    pub fn is_known_function(&self, around: &Around, addr: u64) -> bool
         ensures { (es : List Entry) →
             Knows around.now.known.now es →
             result ≡ rules.is_known_function (around_of around.now es) (slices_of self.now.slices) addr }
@@ -83,8 +83,8 @@ impl Walk {
     }
 
     /// The block ends before a word that is met; else the walk goes on.
-    pub(crate) fn do_go_on(&mut self, obj: &ObjInfo, addr: u64, block: u64) -> Result<(), Fault>
-        requires { addr < 0x10_0000_0000 }
+    pub fn do_go_on(&mut self, obj: &ObjInfo, addr: u64, block: u64) -> Result<(), Fault>
+        requires { address_of addr < 0xF000_0000 }
         ensures { (e : rules.Around) →
             e.image ≡ image_of obj.now →
             outcome (walk_of self.new) result ≡ rules.do_go_on e addr block (walk_of self.old) }
@@ -99,8 +99,8 @@ impl Walk {
     }
 
     /// A zero word is no function's; after another one the walk goes on, whatever is there.
-    pub(crate) fn do_illegal(&mut self, addr: u64, block: u64, word: u32)
-        requires { addr < 0x10_0000_0000 }
+    pub fn do_illegal(&mut self, addr: u64, block: u64, word: u32)
+        requires { address_of addr < 0xF000_0000 }
         ensures { (e : rules.Around) →
             word ≡ images.word e.image (address_of addr) →
             ok (walk_of self.new) ≡ rules.do_illegal e addr block (walk_of self.old) }
@@ -123,8 +123,8 @@ impl Walk {
     }
 
     /// Between prologue and epilogue an unknown jump goes on to the next word.
-    pub(crate) fn do_unknown(&mut self, addr: u64) -> Result<(), Fault>
-        requires { addr < 0x10_0000_0000 }
+    pub fn do_unknown(&mut self, addr: u64) -> Result<(), Fault>
+        requires { address_of addr < 0xF000_0000 }
         ensures { (e : rules.Around) → outcome (walk_of self.new) result ≡ rules.do_unknown e addr (walk_of self.old) }
     {
         if !self.is_between() {
@@ -189,7 +189,7 @@ impl Walk {
     }
 
     /// A jump; one to its own word ends the walk of it.
-    pub(crate) fn do_jump(
+    pub fn do_jump(
         &mut self,
         around: &Around,
         addr: u64,

@@ -12,4 +12,6 @@ mod sequences;
 mod walk;
 
 pub use around::{Around, FUNCTIONS, KnownFunctions};
+pub use code::nth_word;
+pub use jumps::is_recorded;
 pub use walk::{Place, Walk};

@@ -21,7 +21,7 @@ use slices::FunctionSlices;
 
 // Whether a prologue lies below the recorded one, or behind a terminator.
 fn is_misplaced(obj: &ObjInfo, prologue: u64, addr: u64) -> bool
-    requires { addr < 0x10_0000_0000 }
+    requires { address_of addr < 0xF000_0000 }
     ensures { result ≡ (ltb addr prologue || any is_function_terminator (images.words_between (image_of obj.now) (prologue + 4) addr)) }
 {
     addr < prologue || any_terminator(obj, prologue + 4, addr)
@@ -29,7 +29,7 @@ fn is_misplaced(obj: &ObjInfo, prologue: u64, addr: u64) -> bool
 
 // A second prologue must not lie below the recorded one, nor a terminator between.
 fn second_prologue(obj: &ObjInfo, prologue: u64, addr: u64) -> Result<(), Fault>
-    requires { addr < 0x10_0000_0000 }
+    requires { address_of addr < 0xF000_0000 }
     ensures { (s : Slices) → s.prologue ≡ prologue → outcome s result ≡ rules.second_prologue (image_of obj.now) addr s }
 {
     if is_misplaced(obj, prologue, addr) {
@@ -40,7 +40,7 @@ fn second_prologue(obj: &ObjInfo, prologue: u64, addr: u64) -> Result<(), Fault>
 
 // The first prologue is recorded.
 fn meet_prologue(slices: &mut FunctionSlices, obj: &ObjInfo, addr: u64) -> Result<(), Fault>
-    requires { addr < 0x10_0000_0000 }
+    requires { address_of addr < 0xF000_0000 }
     ensures { outcome (slices_of slices.new) result ≡ rules.meet_prologue (image_of obj.now) addr (slices_of slices.old) }
 {
     match recorded(slices.prologue) {
@@ -59,7 +59,7 @@ fn check_prologue(
     addr: u64,
     word: u32,
 ) -> Result<(), Fault>
-    requires { images.in_code (image_of obj.now) addr ≡ true }
+    requires { images.contains (images.code_section (image_of obj.now)) (address_of addr) ≡ true }
     ensures { word ≡ images.word (image_of obj.now) (address_of addr) →
         outcome (slices_of slices.new) result ≡ rules.check_prologue (image_of obj.now) addr (slices_of slices.old) }
 {
@@ -93,7 +93,7 @@ fn meet_epilogue(slices: &mut FunctionSlices, addr: u64) -> Result<(), Fault>
 }
 
 fn check_epilogue(slices: &mut FunctionSlices, obj: &ObjInfo, addr: u64) -> Result<(), Fault>
-    requires { images.in_code (image_of obj.now) addr ≡ true }
+    requires { images.contains (images.code_section (image_of obj.now)) (address_of addr) ≡ true }
     ensures { outcome (slices_of slices.new) result ≡ rules.check_epilogue (image_of obj.now) addr (slices_of slices.old) }
 {
     if begins_epilogue(obj, addr) {
@@ -110,7 +110,7 @@ fn check_sequences(
     word: u32,
     mark: bool,
 ) -> Result<(), Fault>
-    requires { images.in_code (image_of obj.now) addr ≡ true }
+    requires { images.contains (images.code_section (image_of obj.now)) (address_of addr) ≡ true }
     ensures { word ≡ images.word (image_of obj.now) (address_of addr) →
         mark ≡ (images.told_at (image_of obj.now) addr).mark →
         outcome (slices_of slices.new) result ≡ rules.check_sequences (image_of obj.now) addr (slices_of slices.old) }
@@ -149,7 +149,7 @@ pub fn note(
     word: u32,
     mark: bool,
 ) -> Result<(), Fault>
-    requires { images.in_code (image_of obj.now) addr ≡ true }
+    requires { images.contains (images.code_section (image_of obj.now)) (address_of addr) ≡ true }
     ensures { word ≡ images.word (image_of obj.now) (address_of addr) →
         mark ≡ (images.told_at (image_of obj.now) addr).mark →
         outcome (slices_of slices.new) result ≡ noted (image_of obj.now) addr (slices_of slices.old) }

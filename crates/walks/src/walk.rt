@@ -1,5 +1,7 @@
 // The state of a walk, and its elementary changes.
-ghost use Rattle.std.specs.Prelude.{◌≡◌, ◌<◌, length};
+ghost use Rattle.std.specs.Prelude.{◌≡◌, ◌<◌, [], length};
+ghost use Rattle.rules.specs.Address.{address_of};
+ghost use Rattle.rules.specs.Analyze.{new_walk};
 ghost use Rattle.rules.specs.Slices as lists;
 ghost use Rattle.rules.specs.Step as rules;
 ghost use Rattle.faults.specs.Outcome.{outcome};
@@ -33,9 +35,22 @@ pub struct Walk {
 }
 
 impl Walk {
+    /// A walk that has not begun.
+    pub fn new() -> Self
+        ensures { walk_of result ≡ new_walk (lists.with_only []) }
+    {
+        Walk {
+            slices: FunctionSlices::new(),
+            visited: Visited::new(),
+            pending: Pending::new(),
+            fresh: false,
+            place: Place::Idle,
+        }
+    }
+
     /// The block ends behind the word at `addr`.
-    pub(crate) fn end_block(&mut self, addr: u64, block: u64) -> Result<(), Fault>
-        requires { addr < 0x10_0000_0000 }
+    pub fn end_block(&mut self, addr: u64, block: u64) -> Result<(), Fault>
+        requires { address_of addr < 0xF000_0000 }
         ensures { outcome (walk_of self.new) result ≡ rules.end_block addr block (walk_of self.old) }
     {
         self.slices.set_block(block, addr + 4)?;
@@ -44,7 +59,7 @@ impl Walk {
     }
 
     /// Sets the ways on from a word.
-    pub(crate) fn set_branches(&mut self, from: u64, targets: &[u64]) -> Result<(), Fault>
+    pub fn set_branches(&mut self, from: u64, targets: &[u64]) -> Result<(), Fault>
         requires { 0 < length targets.now }
         ensures { outcome (walk_of self.new) result ≡ rules.on_slices (lists.set_branches from targets.now) (walk_of self.old) }
     {
@@ -52,21 +67,21 @@ impl Walk {
     }
 
     /// Adds a function that is referred to.
-    pub(crate) fn add_function_reference(&mut self, addr: u64) -> Result<(), Fault>
+    pub fn add_function_reference(&mut self, addr: u64) -> Result<(), Fault>
         ensures { outcome (walk_of self.new) result ≡ rules.on_slices (lists.add_function_reference addr) (walk_of self.old) }
     {
         self.slices.add_function_reference(addr)
     }
 
     /// An address is to be walked.
-    pub(crate) fn push(&mut self, addr: u64) -> Result<(), Fault>
+    pub fn push(&mut self, addr: u64) -> Result<(), Fault>
         ensures { outcome (walk_of self.new) result ≡ rules.push addr (walk_of self.old) }
     {
         self.pending.push(addr)
     }
 
     /// A new block start is to be walked.
-    pub(crate) fn mark_and_push(&mut self, addr: u64) -> Result<(), Fault>
+    pub fn mark_and_push(&mut self, addr: u64) -> Result<(), Fault>
         ensures { outcome (walk_of self.new) result ≡ rules.mark_and_push addr (walk_of self.old) }
     {
         if self.slices.add_block_start(addr)? {
@@ -76,7 +91,7 @@ impl Walk {
     }
 
     /// Each of them.
-    pub(crate) fn mark_and_push_all(&mut self, addrs: &[u64]) -> Result<(), Fault>
+    pub fn mark_and_push_all(&mut self, addrs: &[u64]) -> Result<(), Fault>
         ensures { outcome (walk_of self.new) result ≡ rules.mark_and_push_all addrs.now (walk_of self.old) }
     {
         for &addr in addrs {

@@ -1,5 +1,5 @@
 // The pending addresses, of which the highest is taken first.
-ghost use Rattle.std.specs.Prelude.{◌≡◌, [], OnErr};
+ghost use Rattle.std.specs.Prelude.{◌≡◌, ◌≤◌, [], OnErr, length, reverse};
 ghost use Rattle.std.specs.List.Sorted.{IsNonDecreasing};
 ghost use Rattle.rules.specs.Choice.{limited};
 ghost use Rattle.rules.specs.Ordered.{empty};
@@ -51,6 +51,14 @@ impl Pending {
         ensures { result ≡ empty self.now }
     {
         self.addresses.is_empty()
+    }
+
+    /// The addresses, ascending.
+    pub fn as_slice(&self) -> &[u64]
+        ensures addresses { reverse result.now ≡ self.now }
+        ensures fits { length result.now ≤ MOST }
+    {
+        self.addresses.as_slice()
     }
 
     /// Puts an address among them, before those that are no higher.

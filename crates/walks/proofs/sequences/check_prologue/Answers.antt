@@ -3,11 +3,11 @@ use Rattle.rules.specs.Choice.{if_true, if_false}
 use Rattle.rules.specs.Words.{is_lwz}
 use Rattle.rules.specs.Step.{check_prologue}
 use Rattle.slices.specs.View.{slices_of}
-use Rattle.walks.proofs.CodeWords.{key_low}
+use Rattle.obj_info.proofs.Lookups.{address_small}
 use Rattle.walks.proofs.sequences.check_prologue.Goals as goal
 
 pub meet_prologue-requires : goal.meet_prologue-requires
-meet_prologue-requires c = key_low _ c.args.obj.now.checked _ c.args.obj.now.is_code _ c.requires
+meet_prologue-requires c = address_small _ c.args.obj.now.checked _ c.args.obj.now.is_code _ c.requires
 
 pub returns-then-is_lwz : goal.returns-then-is_lwz
 unfolding check_prologue slices_of

@@ -3,13 +3,13 @@ use Rattle.std.proofs.lemmas.Result.{err_from_is_err_and}
 use Rattle.rules.specs.Image.{Told}
 use Rattle.walks.specs.Around.{around_of}
 use Rattle.walks.specs.State.{walk_of}
-use Rattle.walks.proofs.CodeWords.{key_low}
+use Rattle.obj_info.proofs.Lookups.{address_small}
 use Rattle.walks.proofs.PlainWords.{split}
 use Rattle.walks.proofs.Steps.{after_ok, after_err}
 use Rattle.walks.proofs.walk.Walk.instruction_callback.Goals as goal
 
 pub do_word-requires : goal.do_word-requires
-do_word-requires c = key_low _ c.args.around.now.obj.checked _ c.args.around.now.obj.is_code _ c.requires
+do_word-requires c = address_small _ c.args.around.now.obj.checked _ c.args.around.now.obj.is_code _ c.requires
 
 pub returns-in_err-note : goal.returns-in_err-note
 returns-in_err-note c = λ es knows.

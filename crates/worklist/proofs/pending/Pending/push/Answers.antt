@@ -11,7 +11,8 @@ returns-then-is_full-clause-outcome c =
 pub returns-clause-outcome : goal.returns-clause-outcome
 returns-clause-outcome c =
     let room : length c.self.inside.addresses.items < 256 = grind (arith, common_steps) in
-    rw (c.insert.ensures.items, ← c.self.view_is) (push_fits _ _ _ (rw c.deref.ensures.0 at c.place-at.ensures) room)
+    let place = rw c.deref.ensures.0 at c.place-at.ensures in
+    rw (c.insert.ensures.items, ← c.self.view_is) (push_fits _ _ _ place.within (λ pos. place.low _ (omega arith)) place.high room)
 
 pub invariant_of-self : goal.invariant_of-self
 invariant_of-self c = rw c.insert.ensures.items (still_ascending _ _ _ c.self.invariant (rw c.deref.ensures.0 at c.place-at.ensures))

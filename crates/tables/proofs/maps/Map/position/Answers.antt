@@ -3,7 +3,7 @@ use Rattle.std.proofs.Common.{rules}
 use Rattle.std.proofs.lemmas.List.Sorted.{answers_always}
 use Rattle.tables.specs.Rows.{row, key_of}
 use Rattle.tables.proofs.Places.{place}
-use Rattle.tables.proofs.maps.Map.search.Goals as goal
+use Rattle.tables.proofs.maps.Map.position.Goals as goal
 
 pub returns-clause-place : goal.returns-clause-place
 returns-clause-place g c =

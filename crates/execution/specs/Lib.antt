@@ -1,0 +1,3 @@
+pub mod Stretch
+pub mod Spot
+pub mod Skip

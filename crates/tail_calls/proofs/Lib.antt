@@ -1,0 +1,4 @@
+pub mod Among
+pub mod Referred
+pub mod Others
+pub mod Tests
