@@ -1,0 +1,6 @@
+mod Each
+mod FirstEntries
+mod Alignment
+mod Behind
+mod Tried
+mod Search

@@ -1,0 +1,10 @@
+use Rattle.rules.specs.Map.{process_step}
+use Rattle.obj_info.specs.Info.{image_of}
+use Rattle.rounds.proofs.Looping.{Running, left}
+use Rattle.rounds.proofs.process_functions.Given as goal
+
+abbrev pub invariant-loop-changed : goal.invariant-loop-changed
+invariant-loop-changed l = Running (image_of l.obj) (process_step (image_of l.obj)) l.fn.state l.fn.lists l.changed l.state l.lists
+
+abbrev pub decreases-loop-changed : goal.decreases-loop-changed
+decreases-loop-changed l = left l.state l.changed
