@@ -1,1 +1,1 @@
-pub mod Passing
+mod CodeWords

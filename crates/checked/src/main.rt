@@ -1,4 +1,4 @@
-//! Prints for each image of its input the number that `obj::checks::check` gives it and, where that is 0, what the reading of each
+//! Prints for each image of its input the number of the check that it fails, 0 for none, and, where that is 0, what the reading of each
 //! jump table in it comes to.
 //!
 //! The crate `lines` has the form in which an image is read.
@@ -12,7 +12,7 @@
 #![tactic(auto)]
 
 mod answer;
-mod tables;
+mod named;
 
 use std::io::{self, BufWriter};
 

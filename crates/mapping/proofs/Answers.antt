@@ -1,11 +1,7 @@
 -- What is printed of an answer, and of the lists that a text came to.
-use mathlib.Core.Path.{◌≡◌, refl, sym, ap}
-use mathlib.Core.Bool.{true, false}
-use mathlib.Core.List.{List, [], ◌∷◌}
-use mathlib.Core.Logic.{◌⊎◌, inl, inr}
-use Prim.Native.Nat.{ℕ, ◌+◌, ◌*◌, ◌-◌, ◌/◌, ◌<◌, ◌≤◌}
-use native.Mathlib.Omega.{arith}
-use lib.ListN.{length, take, drop, replicate, length-append, length-replicate}
+use Rattle.std.proofs.Common.{◌≡◌, refl, sym, ap, true, false, List, [], ◌∷◌, ◌⊎◌, inl, inr, ℕ, ◌+◌, ◌*◌, ◌-◌, ◌/◌, ◌<◌, ◌≤◌, arith, length, take, drop, replicate, length-append}
+use Rattle.std.proofs.lemmas.List.{length-replicate}
+use Rattle.std.specs.Prelude.{Result, Ok, Err}
 use borrow.Author.Tests.{lt-ltb, le-ltb}
 use Rattle.rules.specs.Choice.{if, if_true, if_false, Answer, ok, fault}
 use Rattle.rules.specs.Given.{Given}
@@ -17,50 +13,54 @@ use Rattle.rules.specs.Lines.{text, lines}
 use Rattle.rules.proofs.Faults.{Number}
 use Rattle.rules.proofs.Runs.{check_most, run_numbers}
 use Rattle.obj_image.specs.Lent.{lent, given}
-use Rattle.entries.specs.Table.{flat}
-use Rattle.entries.proofs.Rows.{row_long}
-use Rattle.results.specs.Rows.{result_row}
+use Rattle.faults.specs.declared.Fault.{Fault}
+use Rattle.faults.specs.Number.{number_of}
+use Rattle.analyzer.specs.Table.{flat}
+use Rattle.result_lists.specs.Rows.{rows_of}
 use Rattle.reading.specs.View.{view, room}
 use Rattle.reading.specs.declared.state.Reading.{Reading}
 use Rattle.reading.specs.Texts.{TextRead}
 use Rattle.printing.specs.Rows.{Tells, Telling}
 use Rattle.printing.specs.Told.{Begun}
-use Rattle.printing.proofs.Maps.{results_tell}
-use Rattle.cfa.specs.Maps.{room_of, Told}
-use Rattle.cfa.specs.declared.Map.{Map}
+use Rattle.printing.proofs.Maps.{begins_of, rows_long}
+use Rattle.detection.specs.Maps.{room_of, Reply, reply_of, Told}
+use Rattle.detection.specs.declared.MapSize.{MapSize}
+use Rattle.detection.proofs.Whole.{number_some}
 use Rattle.mapping.specs.Answers.{answer, map_text, image_room, map_room, text_room, fmap_text, Shows, Showing, Sized}
 
 -- ---- an answer printed
 
-module _ (number n : ℕ) (rows lists : List ℕ) where
-  shows_telling : (a : Answer (List Entry)) → Shows a number n rows lists → number ≡ 0 → Telling n rows lists
-  shows_telling (ok es) s z = record { entries = es; tells = s.1 }
-  shows_telling (fault m) s z = absurd (omega (arith, s.0, s.1))
+module _ (rows lists : List ℕ) where
+  pub telling : (size : MapSize) → Showing (Ok size) rows lists → Telling size.entries rows lists
+  telling size s = by s.of_run s.shows
+    where
+      by : (a : Answer (List Entry)) → Shows a (Ok size) rows lists → Telling size.entries rows lists
+      by (ok es) t = record { entries = es; tells = t }
+      by (fault n) t = absurd t
 
-  shows_low : (a : Answer (List Entry)) → Shows a number n rows lists → (number ≡ 0 → ⊥) → number < 100
-  shows_low (ok es) s z = absurd (z s.0)
-  shows_low (fault m) s z = omega (arith, s.0, s.2)
-
-  pub telling : Showing number n rows lists → number ≡ 0 → Telling n rows lists
-  telling s z = shows_telling s.of_run s.shows z
-
-  pub number_low : Showing number n rows lists → (number ≡ 0 → ⊥) → number < 100
-  number_low s z = shows_low s.of_run s.shows z
+  pub number_low : (e : Fault) → Showing (Err e) rows lists → number_of e < 100
+  number_low e s = by s.of_run s.shows
+    where
+      by : (a : Answer (List Entry)) → Shows a (Err e) rows lists → number_of e < 100
+      by (ok es) t = absurd t
+      by (fault n) t = omega (arith, t.0, t.1)
 
   module _ (out out' : List ℕ) (r : ℕ) where
-    pub map_shown : number ≡ 0 → ((es : List Entry) → Tells n rows lists es → Begun (text (lines (ok es))) out out' r) → (a : Answer (List Entry)) → Shows a number n rows lists → Begun (text (lines a)) out out' r
-    map_shown z b (ok es) s = b es s.1
-    map_shown z b (fault m) s = absurd (omega (arith, s.0, s.1))
+    pub map_shown : (size : MapSize) → ((es : List Entry) → Tells size.entries rows lists es → Begun (text (lines (ok es))) out out' r) → (a : Answer (List Entry)) → Shows a (Ok size) rows lists → Begun (text (lines a)) out out' r
+    map_shown size b (ok es) s = b es s
+    map_shown size b (fault n) s = absurd s
 
-    pub refusal_shown : (number ≡ 0 → ⊥) → Begun (text (lines (fault number))) out out' r → (a : Answer (List Entry)) → Shows a number n rows lists → Begun (text (lines a)) out out' r
-    refusal_shown z b (ok es) s = absurd (z s.0)
-    refusal_shown z b (fault m) s = rw s.0 at b
+    pub refusal_shown : (e : Fault) (n : ℕ) → n ≡ number_of e → Begun (text (lines (fault n))) out out' r → (a : Answer (List Entry)) → Shows a (Err e) rows lists → Begun (text (lines a)) out out' r
+    refusal_shown e n is b (ok es) s = absurd s
+    refusal_shown e n is b (fault m) s = rw (is, s.0) at b
 
 -- ---- the answer of a run
 
-rows_long : (es : List Entry) → length (flat result_row es) ≡ 10 * length es
-rows_long [] = refl
-rows_long (x ∷ es) = omega (arith, length-append (result_row x) (flat result_row es), row_long x.analyzed x.slices, rows_long es)
+abbrev number_in : Reply → ℕ
+number_in r = r.number
+
+abbrev entries_in : Reply → ℕ
+entries_in r = r.entries
 
 module _ (g : Given) (cap : Capacity) where
   low : (n : ℕ) → run g cap ≡ fault n → (1 ≤ n) × (n < 100)
@@ -70,28 +70,34 @@ module _ (g : Given) (cap : Capacity) where
       by (inl p) = (p.1, omega (arith, p.0, check_most g))
       by (inr p) = (omega (arith, p.1.0), omega (arith, p.1.1))
 
-module _ (rows₀ lists₀ rows lists : List ℕ) (r : Map) where
-  told_shows_at : (g : Given) (cap : Capacity) (a : Answer (List Entry)) → run g cap ≡ a → Told a rows₀ lists₀ rows lists r → Shows a r.number r.entries rows lists
-  told_shows_at g cap (ok es) e t = (
-    ap (λ (m : Map). m.number) t.answers.0,
-    results_tell r.entries es rows₀ lists₀ rows lists r.numbers (sym (ap (λ (m : Map). m.entries) t.answers.0)) t.right (record { rows_are = t.answers.1; lists_are = t.answers.2; total_is = ap (λ (m : Map). m.numbers) t.answers.0 }),
-  )
-  told_shows_at g cap (fault n) e t = let p : (1 ≤ n) × (n < 100) = low g cap n e in (ap (λ (m : Map). m.number) t.answers.0, p.0, p.1)
+module _ (rows₀ lists₀ rows lists : List ℕ) where
+  told_shows_at : (g : Given) (cap : Capacity) (a : Answer (List Entry)) → run g cap ≡ a → (r : Result MapSize Fault) → Told a rows₀ lists₀ rows lists (reply_of r) → Shows a r rows lists
+  told_shows_at g cap (ok es) q (Ok size) t =
+      record {
+        count = sym (ap entries_in t.answers.0);
+        rows_are = begins_of (rows_of es) _ rows t.answers.1;
+        numbers_are = begins_of (flat es) _ lists t.answers.2;
+        right = t.right;
+      }
+  told_shows_at g cap (ok es) q (Err e) t = number_some e (ap number_in t.answers.0)
+  told_shows_at g cap (fault n) q (Ok size) t = let z : 0 ≡ n = ap number_in t.answers.0 in absurd (omega (arith, (low g cap n q).0))
+  told_shows_at g cap (fault n) q (Err e) t = (ap number_in t.answers.0, (low g cap n q).1)
 
-  pub told_shows : (g : Given) (cap : Capacity) → Told (run g cap) rows₀ lists₀ rows lists r → Shows (run g cap) r.number r.entries rows lists
-  told_shows g cap t = told_shows_at g cap (run g cap) refl t
+  module _ (r : Result MapSize Fault) where
+    pub told_shows : (g : Given) (cap : Capacity) → Told (run g cap) rows₀ lists₀ rows lists (reply_of r) → Shows (run g cap) r rows lists
+    told_shows g cap t = told_shows_at g cap (run g cap) refl r t
 
-  pub told_showing : (g : Given) (cap : Capacity) → Told (run g cap) rows₀ lists₀ rows lists r → Showing r.number r.entries rows lists
-  told_showing g cap t = record { of_run = run g cap; shows = told_shows g cap t }
+    pub told_showing : (g : Given) (cap : Capacity) → Told (run g cap) rows₀ lists₀ rows lists (reply_of r) → Showing r rows lists
+    told_showing g cap t = record { of_run = run g cap; shows = told_shows g cap t }
 
-  -- no more entries than the rows have room for
-  entries_few : (a : Answer (List Entry)) → Told a rows₀ lists₀ rows lists r → length rows ≡ length rows₀ → r.entries ≤ length rows₀ / 10
-  entries_few (ok es) t k =
-      omega (arith, ap (λ (m : Map). m.entries) t.answers.0, ap length t.answers.1, length-append (flat result_row es) (replicate (length rows₀ - length (flat result_row es)) 0), rows_long es)
-  entries_few (fault n) t k = omega (arith, ap (λ (m : Map). m.entries) t.answers.0)
+    -- no more entries than the rows have room for
+    entries_few : (a : Answer (List Entry)) → Told a rows₀ lists₀ rows lists (reply_of r) → length rows ≡ length rows₀ → (reply_of r).entries ≤ length rows₀ / 10
+    entries_few (ok es) t k =
+        omega (arith, ap entries_in t.answers.0, ap length t.answers.1, length-append (rows_of es) (replicate (length rows₀ - length (rows_of es)) 0), rows_long es)
+    entries_few (fault n) t k = omega (arith, ap entries_in t.answers.0)
 
-  pub told_room : (a : Answer (List Entry)) (size : ℕ) → Told a rows₀ lists₀ rows lists r → length rows ≡ length rows₀ → length lists ≡ length lists₀ → 6 + 46 * (length rows₀ / 10) + 11 * length lists₀ ≤ size → 6 + 46 * r.entries + 11 * length lists ≤ size
-  told_room a size t k l h = omega (arith, entries_few a t k)
+    pub told_room : (a : Answer (List Entry)) (size : ℕ) → Told a rows₀ lists₀ rows lists (reply_of r) → length rows ≡ length rows₀ → length lists ≡ length lists₀ → 6 + 46 * (length rows₀ / 10) + 11 * length lists₀ ≤ size → 6 + 46 * (reply_of r).entries + 11 * length lists ≤ size
+    told_room a size t k l h = omega (arith, entries_few a t k)
 
 -- ---- the lists that a text came to
 

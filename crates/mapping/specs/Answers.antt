@@ -1,6 +1,6 @@
 -- What is printed of the image that a text of frames stands for.
 use Rattle.std.specs.Prelude.{◌≡◌, List, ℕ, ◌<◌, ◌≤◌, ltb, length}
-use Rattle.std.specs.Prelude.{Option, None, Some}
+use Rattle.std.specs.Prelude.{Option, None, Some, Result, Ok, Err}
 use Rattle.rules.specs.Choice.{if, Answer, ok, fault}
 use Rattle.rules.specs.Known.{Entry}
 use Rattle.rules.specs.Map.{Capacity}
@@ -9,7 +9,10 @@ use Rattle.rules.specs.Lines.{text, lines}
 use Rattle.obj_image.specs.Lent.{Lent, given}
 use Rattle.reading.specs.PutFrame.{Room}
 use Rattle.reading.specs.Texts.{read_text}
+use Rattle.faults.specs.declared.Fault.{Fault}
+use Rattle.faults.specs.Number.{number_of}
 use Rattle.printing.specs.Rows.{Tells}
+use Rattle.detection.specs.declared.MapSize.{MapSize}
 
 -- the run of the lists that a text came to; "a line that is no frame, prints R 01 alone"
 abbrev pub answer : Option Lent → Capacity → Answer (List Entry)
@@ -40,15 +43,17 @@ fmap_text t = if (ltb (length t) text_room) (map_text image_room map_room t) (te
 
 -- ---- inside
 
--- an answer is there to be printed: its map in the result lists, or its number
-abbrev pub Shows : Answer (List Entry) → ℕ → ℕ → List ℕ → List ℕ → Type 0
-Shows (ok es) number n rows lists = (number ≡ 0) × Tells n rows lists es
-Shows (fault m) number n rows lists = (number ≡ m) × (1 ≤ m) × (m < 100)
+-- an answer is there to be printed: its map in the result lists, or its fault
+abbrev pub Shows : Answer (List Entry) → Result MapSize Fault → List ℕ → List ℕ → Type 0
+Shows (ok es) (Ok size) rows lists = Tells size.entries rows lists es
+Shows (ok es) (Err e) rows lists = ⊥
+Shows (fault n) (Ok size) rows lists = ⊥
+Shows (fault n) (Err e) rows lists = (number_of e ≡ n) × (n < 100)
 
 -- some answer is
-pub record Showing (number n : ℕ) (rows lists : List ℕ) : Type 0 where
+pub record Showing (r : Result MapSize Fault) (rows lists : List ℕ) : Type 0 where
   pub of_run : Answer (List Entry)
-  pub shows : Shows of_run number n rows lists
+  pub shows : Shows of_run r rows lists
 
 -- the lent slices have the room that `fmap` has, and the text of a map has its own
 pub record Sized (s b o f j k e rows lists out : List ℕ) : Type 0 where

@@ -9,9 +9,11 @@ ghost use Rattle.rules.specs.Lines as rules;
 ghost use Rattle.obj_image.specs.Lent.{lent, given};
 ghost use Rattle.reading.specs.View.{view, Fit};
 ghost use Rattle.printing.specs.Told.{Begun};
-ghost use Rattle.cfa.specs.Maps.{room_of};
+ghost use Rattle.detection.specs.Maps.{room_of, reply_of};
 ghost use Rattle.mapping.specs.Answers.{answer, map_text, image_room, map_room, fmap_text, Shows, Showing, Sized};
 
+use detection::MapSize;
+use faults::Fault;
 use reading::state::Reading;
 
 // The number of a text with a line that is no frame.
@@ -20,18 +22,17 @@ const NO_FRAME: u32 = 1;
 // The texts that `fmap` takes are shorter than this.
 const TEXT_ROOM: usize = 0x10_0000;
 
-// The text of an answer: the map that the result lists hold, or the number alone.
-fn print_answer(number: u32, count: usize, rows: &[u64], lists: &[u64], out: &mut [u8]) -> usize
-    requires shown { Showing number count rows.now lists.now }
-    requires room { 6 + 46 * count + 11 * length lists.now ≤ length out.old }
+// The text of an answer: the map that the result lists hold, or the fault's number alone.
+fn print_answer(found: Result<MapSize, Fault>, rows: &[u64], lists: &[u64], out: &mut [u8]) -> usize
+    requires shown { Showing found rows.now lists.now }
+    requires room { 6 + 46 * (reply_of found).entries + 11 * length lists.now ≤ length out.old }
     ensures { (a : Answer (List Entry)) →
-        Shows a number count rows.now lists.now →
+        Shows a found rows.now lists.now →
         Begun (rules.text (rules.lines a)) out.old out.new result }
 {
-    if number == 0 {
-        printing::put_map(rows, lists, count, out)
-    } else {
-        printing::put_refusal(number, out)
+    match found {
+        Ok(size) => printing::put_map(rows, lists, size.entries, out),
+        Err(fault) => printing::put_refusal(fault.number(), out),
     }
 }
 
@@ -59,10 +60,10 @@ fn map_lists(
         (room_of rows.old lists.old))))
         out.old out.new result }
 {
-    let m = cfa::detect_functions(
+    let found = detection::detect_functions(
         sections, bytes, outcomes, functions, objects, skips, entry, rows, lists,
     );
-    print_answer(m.number, m.entries, rows, lists, out)
+    print_answer(found, rows, lists, out)
 }
 
 // What was read of a text to the text of its map. The lists that stand for the image are the first numbers of each lent one.

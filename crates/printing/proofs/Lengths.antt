@@ -12,8 +12,8 @@ use Rattle.rules.specs.Blocks.{Block}
 use Rattle.rules.specs.Slices.{Slices, Branches, Table, count_branches}
 use Rattle.rules.specs.Known.{Entry, is_function}
 use Rattle.rules.specs.Lines.{Line, address_or_dash, flag, text, line_F, lines_B, lines_from, lines_C, lines_X, lines_J, lines_function, lines_entry, lines_map}
-use Rattle.stored.proofs.Numbers.{flow_count, others_count, parted_count}
-use Rattle.entries.specs.Table.{numbers_in, entry_numbers, flat}
+use Rattle.analyzer.specs.Table.{numbers_in, entry_numbers, flat}
+use Rattle.result_lists.proofs.Reading.{numbers_long}
 use Rattle.printing.proofs.Columns.{text_append}
 
 dash_short : (k : ℕ) → length (address_or_dash k) ≤ 8
@@ -63,18 +63,18 @@ function_short x (some s) =
     length-append (line_F x s ++ bytes "\n") (text (lines_B s.blocks ++ lines_C s.branches ++ lines_X s.function_references ++ lines_J s.jump_table_references))
     in
     let n : length (line_F x s ++ bytes "\n") ≡ length (line_F x s) + 1 = length-append (line_F x s) (bytes "\n") in
-    omega (arith, e, n, four (lines_B s.blocks) (lines_C s.branches) (lines_X s.function_references) (lines_J s.jump_table_references), head_short x s, blocks_short s.blocks, branches_short s.branches, references_short s.function_references, tables_short s.jump_table_references, parted_count s, flow_count s, others_count s)
+    omega (arith, e, n, four (lines_B s.blocks) (lines_C s.branches) (lines_X s.function_references) (lines_J s.jump_table_references), head_short x s, blocks_short s.blocks, branches_short s.branches, references_short s.function_references, tables_short s.jump_table_references, numbers_long s [])
 
 entry_short : (x : Entry) → length (text (lines_entry x)) ≤ 46 + 11 * length (entry_numbers x)
 unfolding lines_entry
 entry_short x =
     by_if (λ (l : List Line). length (text l) ≤ 46 + 11 * length (entry_numbers x)) (is_function x) (λ _. function_short x x.slices) (λ _. omega arith)
 
-pub map_short : (es : List Entry) → length (text (lines_map es)) ≤ 46 * length es + 11 * length (flat entry_numbers es)
+pub map_short : (es : List Entry) → length (text (lines_map es)) ≤ 46 * length es + 11 * length (flat es)
 map_short [] = omega arith
 map_short (x ∷ es) =
     let a : length (text (lines_entry x ++ lines_map es)) ≡ length (text (lines_entry x)) + length (text (lines_map es)) =
     ap length (text_append (lines_entry x) (lines_map es)) ∙ length-append (text (lines_entry x)) (text (lines_map es))
     in
-    let b : length (entry_numbers x ++ flat entry_numbers es) ≡ length (entry_numbers x) + length (flat entry_numbers es) = length-append (entry_numbers x) (flat entry_numbers es) in
+    let b : length (entry_numbers x ++ flat es) ≡ length (entry_numbers x) + length (flat es) = length-append (entry_numbers x) (flat es) in
     omega (arith, entry_short x, map_short es)

@@ -1,129 +1,166 @@
 -- The entries read back from the result lists, and what is printed of them.
-use mathlib.Core.Path.{◌≡◌, sym, ap, ap₂, ◌∙◌}
-use mathlib.Core.List.{List, [], ◌∷◌, ◌++◌, append_assoc}
-use Prim.Native.Nat.{ℕ, suc, ◌+◌, ◌*◌, ◌-◌, ◌<◌, ◌≤◌}
-use native.Mathlib.Omega.{arith}
-use lib.ListN.{length, drop, replicate, length-append}
-use lib.Seq.{drop_at}
+use Rattle.std.proofs.Common.{◌≡◌, refl, sym, ap, ap₂, ◌∙◌, ℕ, zero, suc, ◌+◌, ◌*◌, ◌/◌, ◌≤◌, ◌<◌, List, [], ◌∷◌, ◌++◌, length, take, drop, map, get_or, arith, append_assoc, length-append, drop-cons, add-one}
+use mathlib.Core.List.{append-nil}
+use lib.ListN.{take-append-drop}
+use lib.Seq.{take_at, drop_at}
+use Rattle.std.proofs.lemmas.List.{drop_all}
+use Rattle.std.proofs.Math.Option.{Option, none, some}
+use Rattle.std.specs.Simd.{first_chunks}
 use Rattle.rules.specs.Choice.{ok, fault}
+use Rattle.rules.specs.Slices.{Slices}
 use Rattle.rules.specs.Known.{Entry}
 use Rattle.rules.specs.Lines.{text, line_R, lines_entry, lines_map, lines}
-use Rattle.entries.specs.Table.{info_row, entry_numbers, flat, row_size, AllRight}
-use Rattle.entries.proofs.Rows.{row_long, row_behind, row_numbers, begins_form, begins_of, begins_le}
-use Rattle.results.specs.Rows.{result_row, map_of, Results}
-use Rattle.results.proofs.Reading.{map_read}
-use Rattle.printing.specs.Printed.{Room, Printed}
-use Rattle.printing.proofs.Printing.{printed_then, room_first, Going, going_first, going_on, going_ends}
-use Rattle.printing.specs.Rows.{first_entry, There, Tells, Telling}
-use Rattle.printing.specs.Told.{Begun}
+use Rattle.analyzer.specs.Table.{entry_numbers, flat, AllRight}
+use Rattle.result_lists.specs.Rows.{result_row, rows_of}
+use Rattle.result_lists.specs.Back.{row_len, entry_from}
+use Rattle.result_lists.proofs.Reading.{entry_back}
+use Rattle.result_lists.proofs.Reading as reading
+use Rattle.printing.specs.Printed.{laid, Room, Printed}
+use Rattle.printing.specs.Rows.{row_from, numbers_long, entries_in, There, Begins, Tells, Telling}
+use Rattle.printing.specs.Told.{Begun, printed_entry, Cut}
+use Rattle.printing.specs.declared.line.Text.{Text}
+use Rattle.printing.specs.declared.row.EntryRow.{EntryRow}
+use Rattle.printing.specs.declared.row.Lists.{Lists}
+use Rattle.printing.proofs.Printing.{printed_then, room_first, Going, going_on, going_ends}
 use Rattle.printing.proofs.Columns.{text_append}
+use Rattle.printing.proofs.Entries.{printed_is}
 use Rattle.printing.proofs.Lengths.{map_short}
 
 -- ---- the entries that the lists tell
 
-module _ (x : Entry) (Z Y : List ℕ) where
-  row_behind_it : drop 10 (result_row x ++ Z) ≡ Z
-  row_behind_it = row_behind x.analyzed x.slices Z
+begins_form : (l xs : List ℕ) → Begins l xs → xs ≡ l ++ drop (length l) xs
+begins_form l xs b = sym (take-append-drop (length l) xs) ∙ ap (λ m. m ++ drop (length l) xs) b.same
 
-  numbers_behind : drop (row_size (drop 2 (result_row x ++ Z))) (entry_numbers x ++ Y) ≡ Y
-  numbers_behind = drop_at (entry_numbers x) Y (row_size (info_row x ++ Z)) (sym (row_numbers x.analyzed x.slices Z))
+begins_le : (l xs : List ℕ) → Begins l xs → length l ≤ length xs
+begins_le l xs b = omega (arith, ap length (begins_form l xs b), length-append l (drop (length l) xs))
 
-there_is : (n : ℕ) {a a' b b' : List ℕ} → a ≡ a' → b ≡ b' → There n a' b' → There n a b
-there_is n e f t = rw (e, f) t
+pub begins_of : (l z xs : List ℕ) → xs ≡ l ++ z → Begins l xs
+begins_of l z xs e = record { same = ap (take (length l)) e ∙ take_at l z (length l) refl }
 
-all_there : (es : List Entry) (z y : List ℕ) → There (length es) (flat result_row es ++ z) (flat entry_numbers es ++ y)
-all_there [] z y = tt
-all_there (x ∷ es) z y =
-    let Z : List ℕ = flat result_row es ++ z in
-    let Y : List ℕ = flat entry_numbers es ++ y in
-    there_is (suc (length es)) (append_assoc (result_row x) (flat result_row es) z) (append_assoc (entry_numbers x) (flat entry_numbers es) y) (
-      omega (arith, length-append (info_row x) Z, row_long x.analyzed x.slices),
-      omega (arith, length-append (entry_numbers x) Y, row_numbers x.analyzed x.slices Z),
-      there_is (length es) (row_behind_it x Z Y) (numbers_behind x Z Y) (all_there es z y),
-    )
+module _ (x : Entry) where
+  ten : length (result_row x) ≡ 10
+  ten = by x.slices refl
+    where
+      by : (o : Option Slices) → x.slices ≡ o → length (result_row x) ≡ 10
+      by none q = rw q refl
+      by (some s) q = rw q refl
+
+  as_many : row_len (result_row x) ≡ length (entry_numbers x)
+  as_many = by x.slices refl
+    where
+      by : (o : Option Slices) → x.slices ≡ o → row_len (result_row x) ≡ length (entry_numbers x)
+      by none q = rw q refl
+      by (some s) q = rw q (sym (reading.numbers_long s []))
+
+  past : (y : List ℕ) → drop (row_len (result_row x)) (entry_numbers x ++ y) ≡ y
+  past y = drop_at (entry_numbers x) y (row_len (result_row x)) (sym as_many)
+
+pub rows_long : (es : List Entry) → length (rows_of es) ≡ 10 * length es
+rows_long [] = refl
+rows_long (x ∷ es) = omega (arith, length-append (result_row x) (rows_of es), ten x, rows_long es)
+
+rows_cut : (es : List Entry) (z : List ℕ) (k : ℕ) → length es ≤ k → take (length es) (first_chunks 10 k (rows_of es ++ z)) ≡ map result_row es
+rows_cut [] z k h = refl
+rows_cut (x ∷ es) z zero h = absurd (omega arith)
+rows_cut (x ∷ es) z (suc k) h =
+    rw (append_assoc (result_row x) (rows_of es) z)
+    (ap₂ (λ (r : List ℕ) (rows : List (List ℕ)). r ∷ rows) (take_at (result_row x) (rows_of es ++ z) 10 (ten x))
+    (ap (λ (r : List ℕ). take (length es) (first_chunks 10 k r)) (drop_at (result_row x) (rows_of es ++ z) 10 (ten x)) ∙ rows_cut es z k (omega arith)))
+
+all_there : (es : List Entry) (y : List ℕ) → There (map result_row es) (flat es ++ y)
+all_there [] y = tt
+all_there (x ∷ es) y =
+    rw (append_assoc (entry_numbers x) (flat es) y)
+    (omega (arith, as_many x, length-append (entry_numbers x) (flat es ++ y)), rw (past x (flat es ++ y)) (all_there es y))
+
+all_back : (es : List Entry) (y : List ℕ) → AllRight es → entries_in (map result_row es) (flat es ++ y) ≡ es
+all_back [] y r = refl
+all_back (x ∷ es) y r =
+    rw (append_assoc (entry_numbers x) (flat es) y)
+    (ap₂ (λ (e : Entry) (l : List Entry). e ∷ l) (ap (λ z. entry_from z (entry_numbers x ++ (flat es ++ y))) (sym (append-nil (result_row x))) ∙ entry_back x [] (flat es ++ y) r.0)
+    (ap (entries_in (map result_row es)) (past x (flat es ++ y)) ∙ all_back es y r.1))
 
 module _ (n : ℕ) (rows lists : List ℕ) (es : List Entry) (t : Tells n rows lists es) where
-  pub map_is : map_of n rows lists ≡ es
-  map_is =
-      ap (λ (m : ℕ). map_of m rows lists) (sym t.count)
-      ∙ ap₂ (λ (i l : List ℕ). map_of (length es) i l) (begins_form (flat result_row es) rows t.rows_are) (begins_form (flat entry_numbers es) lists t.numbers_are)
-      ∙ map_read es _ _ t.right
+  pub few : n ≤ length rows / 10
+  few = omega (arith, t.count, begins_le (rows_of es) rows t.rows_are, rows_long es)
 
-  pub there : There n rows lists
-  there =
-      rw (sym t.count, begins_form (flat result_row es) rows t.rows_are, begins_form (flat entry_numbers es) lists t.numbers_are)
-      (all_there es (drop (length (flat result_row es)) rows) (drop (length (flat entry_numbers es)) lists))
+  module _ (c : List (List ℕ)) (cut : c ≡ take n (first_chunks 10 (length rows / 10) rows)) where
+    rows_read : c ≡ map result_row es
+    rows_read =
+        cut ∙ ap₂ (λ (m : ℕ) (r : List ℕ). take m (first_chunks 10 (length rows / 10) r)) (sym t.count) (begins_form (rows_of es) rows t.rows_are)
+        ∙ rows_cut es (drop (length (rows_of es)) rows) (length rows / 10) (omega (arith, few, t.count))
 
-  pub short : length (text (lines_map (map_of n rows lists))) ≤ 46 * n + 11 * length lists
-  short = rw map_is (omega (arith, map_short es, t.count, begins_le (flat entry_numbers es) lists t.numbers_are))
+    pub there : There c lists
+    there = rw (rows_read, begins_form (flat es) lists t.numbers_are) (all_there es (drop (length (flat es)) lists))
 
--- what `results::put_results` leaves tells its entries
-pub results_tell : (n : ℕ) (es : List Entry) (rows_before lists_before rows lists : List ℕ) (total : ℕ) → length es ≡ n → AllRight es → Results es rows_before lists_before rows lists total → Tells n rows lists es
-results_tell n es rows_before lists_before rows lists total count right r =
-    record {
-      count = count;
-      rows_are = begins_of (flat result_row es) (replicate (length rows_before - length (flat result_row es)) 0) rows r.rows_are;
-      numbers_are = begins_of (flat entry_numbers es) (replicate (length lists_before - length (flat entry_numbers es)) 0) lists r.lists_are;
-      right = right;
-    }
+    pub entries_are : entries_in c lists ≡ es
+    entries_are = ap₂ entries_in rows_read (begins_form (flat es) lists t.numbers_are) ∙ all_back es (drop (length (flat es)) lists) t.right
+
+    pub short : length (text (lines_map (entries_in c lists))) ≤ 46 * n + 11 * length lists
+    short = rw entries_are (omega (arith, map_short es, t.count, begins_le (flat es) lists t.numbers_are))
 
 -- ---- the loop over them
 
--- what is printed of the n entries that are left makes the whole
-pub record Left (n : ℕ) (rows lists whole out₀ : List ℕ) (at : ℕ) (out : List ℕ) (p : ℕ) : Type 0 where
-  pub there : There n rows lists
-  pub going : Going (text (lines_map (map_of n rows lists))) whole out₀ at out p
+-- what is printed of the entries that are left makes the whole
+pub record Left (rows : List (List ℕ)) (numbers whole : List ℕ) (first t : Text) : Type 0 where
+  pub there : There rows numbers
+  pub going : Going (text (lines_map (entries_in rows numbers))) whole first t
 
-pub left_first : (n at : ℕ) (rows lists out : List ℕ) → There n rows lists → Room (text (lines_map (map_of n rows lists))) out at → Left (n - 0) rows lists (text (lines_map (map_of n rows lists))) out at out at
-left_first n at rows lists out t r =
-    let z : n - 0 ≡ n = omega arith in
-    record { there = rw z t; going = rw z (going_first _ out at r) }
+module _ (rows : List (List ℕ)) (i : ℕ) (numbers whole : List ℕ) (first t : Text) (l : Left (drop i rows) numbers whole first t) where
+  pub left_ends : length rows ≤ i → Printed whole first t
+  left_ends h = let z : drop i rows ≡ [] = drop_all i rows h in going_ends (rw z at l.going)
 
-module _ {n i at p : ℕ} {rows lists whole out₀ out : List ℕ} (l : Left (n - i) rows lists whole out₀ at out p) where
-  pub left_ends : n ≤ i → Printed whole out₀ at out p
-  left_ends h = let z : n - i ≡ 0 = omega arith in going_ends (rw z at l.going)
+  module _ (d : List ℕ) (lt : i < length rows) where
+    abbrev r : List ℕ
+    r = get_or rows i d
 
-  module _ (lt : i < n) where
-    one_more : Left (suc (n - (i + 1))) rows lists whole out₀ at out p
-    one_more = let e : n - i ≡ suc (n - (i + 1)) = omega arith in rw e at l
+    one_more : Left (r ∷ drop (i + 1) rows) numbers whole first t
+    one_more = let q : drop i rows ≡ r ∷ drop (i + 1) rows = rw add-one (drop-cons rows i d lt) in rw q at l
 
-    pub first_there : (10 ≤ length rows) × (row_size (drop 2 rows) ≤ length lists)
-    first_there = (one_more.there.0, one_more.there.1)
+    -- the entry whose row it is, and its numbers
+    module _ (e : EntryRow) (is : e ≡ row_from r) where
+      module _ (s : Lists) (c : Cut e numbers s) where
+        split : Going (printed_entry e s ++ text (lines_map (entries_in (drop (i + 1) rows) (drop (row_len r) numbers)))) whole first t
+        split =
+            let q : text (lines_entry (entry_from r numbers)) ≡ printed_entry e s = rw is (printed_is r numbers s (rw is at c)) in
+            rw (text_append (lines_entry (entry_from r numbers)) _, q) at one_more.going
 
-    split : Going (text (lines_entry (first_entry rows lists)) ++ text (lines_map (map_of (n - (i + 1)) (drop 10 rows) (drop (row_size (drop 2 rows)) lists)))) whole out₀ at out p
-    split = rw (text_append (lines_entry (first_entry rows lists)) _) at one_more.going
+        pub first_room : Room (printed_entry e s) t
+        first_room = room_first _ _ _ split.room
 
-    pub first_room : Room (text (lines_entry (first_entry rows lists))) out p
-    first_room = room_first _ _ _ _ split.room
+        behind_is : s.behind.now ≡ drop (row_len r) numbers
+        behind_is = c.behind_is ∙ ap (λ e. drop (numbers_long e) numbers) is
 
-    pub left_next : {m : List ℕ} {next k : ℕ} → Printed (text (lines_entry (first_entry rows lists))) out p m next → k ≡ row_size (drop 2 rows) → Left (n - (i + 1)) (drop 10 rows) (drop k lists) whole out₀ at m next
-    left_next pr e = rw e (record { there = one_more.there.2; going = going_on split pr })
+        pub left_next : (m : Text) → Printed (printed_entry e s) t m → Left (drop (i + 1) rows) s.behind.now whole first m
+        left_next m pr = rw behind_is (record { there = one_more.there.1; going = going_on split pr })
 
 -- ---- the whole text
 
-begun : (l out out' : List ℕ) (r : ℕ) → Printed l out 0 out' r → Begun l out out' r
-begun l out out' r p =
-    let e : r ≡ length l = omega (arith, p.past) in
-    record { count = e; text = p.same ∙ ap (λ (i : ℕ). l ++ drop i out) (sym p.past); size = p.size }
+-- what is printed from the front of a slice, which is `out'` once its text is let go
+begun : (l out out' : List ℕ) (n : ℕ) (t t' : Text) → t.out.now ≡ out → t.len ≡ 0 → out' ≡ t'.out.now → n ≡ t'.len → Printed l t t' → Begun l out out' n
+begun l out out' n t t' o z is len p =
+    let q : 0 + length l ≡ n = omega (arith, p.past) in
+    record {
+      count = omega arith;
+      text = is ∙ p.same ∙ ap₂ (λ (out : List ℕ) (at : ℕ). laid out at l) o z ∙ ap (λ (i : ℕ). l ++ drop i out) q;
+      size = ap length is ∙ p.size ∙ ap length o;
+    }
 
--- the text lies within the slice
-pub begun_within : {l out out' : List ℕ} {r : ℕ} → Begun l out out' r → r ≤ length out'
-begun_within {l} {out} {out'} {r} b =
-    let e : length out' ≡ length l + length (drop r out) = ap length b.text ∙ length-append l (drop r out) in omega (arith, b.count)
-
-pub refusal_begun : (n : ℕ) (out out' : List ℕ) (r : ℕ) → Printed (line_R n ++ (10 ∷ [])) out 0 out' r → Begun (text (lines (fault n))) out out' r
-unfolding lines line_R
-refusal_begun n out out' r p = begun _ out out' r p
-
-pub answer_room : (n : ℕ) (out : List ℕ) → 5 ≤ length out → Room (line_R n ++ (10 ∷ [])) out 0
-unfolding line_R
-answer_room n out h = record { fits = omega arith }
-
-module _ (n : ℕ) (rows lists out : List ℕ) (h : 6 + 46 * n + 11 * length lists ≤ length out) (m : List ℕ) (p : ℕ) (first : Printed (line_R 0 ++ (10 ∷ [])) out 0 m p) where
-  pub map_room : Telling n rows lists → Room (text (lines_map (map_of n rows lists))) m p
+module _ (out : List ℕ) (t : Text) (o : t.out.now ≡ out) (z : t.len ≡ 0) where
+  pub answer_room : (n : ℕ) → 5 ≤ length out → Room (line_R n ++ (10 ∷ [])) t
   unfolding line_R
-  map_room t = record { fits = omega (arith, first.past, first.size, short n rows lists t.entries t.tells) }
+  answer_room n h = record { fits = omega (arith, ap length o) }
 
-  pub map_begun : (out' : List ℕ) (r : ℕ) → Printed (text (lines_map (map_of n rows lists))) m p out' r → (es : List Entry) → Tells n rows lists es → Begun (text (lines (ok es))) out out' r
-  unfolding lines
-  map_begun out' r pr es t = begun _ out out' r (rw (map_is n rows lists es t) at (printed_then first pr))
+  module _ (out' : List ℕ) (k : ℕ) (t' : Text) (is : out' ≡ t'.out.now) (len : k ≡ t'.len) where
+    pub refusal_begun : (n : ℕ) → Printed (line_R n ++ (10 ∷ [])) t t' → Begun (text (lines (fault n))) out out' k
+    unfolding lines line_R
+    refusal_begun n p = begun _ out out' k t t' o z is len p
+
+  module _ (n : ℕ) (rows lists : List ℕ) (h : 6 + 46 * n + 11 * length lists ≤ length out) (c : List (List ℕ)) (cut : c ≡ take n (first_chunks 10 (length rows / 10) rows)) (m : Text) (first : Printed (line_R 0 ++ (10 ∷ [])) t m) where
+    pub map_room : Telling n rows lists → Room (text (lines_map (entries_in c lists))) m
+    unfolding line_R
+    map_room s = record { fits = omega (arith, first.past, first.size, ap length o, short n rows lists s.entries s.tells c cut) }
+
+    pub map_begun : (out' : List ℕ) (k : ℕ) (t' : Text) → out' ≡ t'.out.now → k ≡ t'.len → Printed (text (lines_map (entries_in c lists))) m t' → (es : List Entry) → Tells n rows lists es → Begun (text (lines (ok es))) out out' k
+    unfolding lines
+    map_begun out' k t' is len pr es s = begun _ out out' k t t' o z is len (rw (entries_are n rows lists es s c cut) at (printed_then first pr))

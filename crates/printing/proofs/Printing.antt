@@ -1,38 +1,61 @@
 -- What is printed one after the other is printed as one.
-use mathlib.Core.Path.{◌≡◌, refl, sym, ap₂, ◌∙◌}
-use mathlib.Core.List.{List, [], ◌++◌, append-nil}
-use Prim.Native.Nat.{ℕ, ◌+◌, ◌≤◌}
-use native.Mathlib.Omega.{arith}
-use lib.ListN.{length, take, length-append, take-append-drop}
-use Rattle.stored.specs.Laid.{laid}
-use Rattle.stored.proofs.Laying.{laid_on}
-use Rattle.printing.specs.Printed.{Room, Printed}
+use Rattle.std.proofs.Common.{◌≡◌, refl, sym, ap, ap₂, ◌∙◌, List, [], ◌++◌, ℕ, ◌+◌, ◌≤◌, arith, length, take, drop, append_assoc, length-append}
+use mathlib.Core.List.{append-nil}
+use lib.ListN.{take-append-drop}
+use lib.Seq.{length-take-le, take_at, drop_at, drop-drop}
+use Rattle.printing.specs.Printed.{laid, Room, Printed}
+use Rattle.printing.specs.declared.line.Text.{Text}
 
-pub room_first : (a b out : List ℕ) (at : ℕ) → Room (a ++ b) out at → Room a out at
-room_first a b out at h = record { fits = omega (arith, h.fits, length-append a b) }
+-- ---- bytes in the place of others
 
-module _ {a b out : List ℕ} {at : ℕ} {m : List ℕ} {next : ℕ} where
-  pub room_next : Room (a ++ b) out at → Printed a out at m next → Room b m next
+module _ (out : List ℕ) (at : ℕ) (a : List ℕ) (room : at + length a ≤ length out) where
+  front : length (take at out ++ a) ≡ at + length a
+  front = length-append (take at out) a ∙ ap (λ (i : ℕ). i + length a) (length-take-le at out (omega arith))
+
+  before : take (at + length a) (laid out at a) ≡ take at out ++ a
+  before = take_at (take at out ++ a) (drop (at + length a) out) (at + length a) front
+
+  behind : (n : ℕ) → drop (at + length a + n) (laid out at a) ≡ drop (at + length a + n) out
+  behind n =
+      sym (drop-drop n (at + length a) (laid out at a))
+      ∙ ap (drop n) (drop_at (take at out ++ a) (drop (at + length a) out) (at + length a) front)
+      ∙ drop-drop n (at + length a) out
+
+  laid_on : (b : List ℕ) → laid (laid out at a) (at + length a) b ≡ laid out at (a ++ b)
+  laid_on b =
+      let e : at + length a + length b ≡ at + length (a ++ b) = omega (arith, length-append a b) in
+      ap₂ (λ (l m : List ℕ). l ++ b ++ m) before (behind (length b))
+      ∙ ap₂ (λ (l : List ℕ) (i : ℕ). l ++ drop i out) (append_assoc (take at out) a b) e
+
+-- ---- one text behind the other
+
+pub room_first : (a b : List ℕ) (t : Text) → Room (a ++ b) t → Room a t
+room_first a b t h = record { fits = omega (arith, h.fits, length-append a b) }
+
+module _ {a b : List ℕ} {t m : Text} where
+  pub room_next : Room (a ++ b) t → Printed a t m → Room b m
   room_next h p = record { fits = omega (arith, h.fits, length-append a b, p.past, p.size) }
 
-  pub printed_then : {out' : List ℕ} {past : ℕ} → Printed a out at m next → Printed b m next out' past → Printed (a ++ b) out at out' past
-  printed_then {out'} {past} p q =
-      let w : next ≤ length out = p.within in
-      let e : next ≡ at + length a = p.past in
-      let r : at + length a ≤ length out = omega arith in
+  pub printed_then : {t' : Text} → Printed a t m → Printed b m t' → Printed (a ++ b) t t'
+  printed_then {t'} p q =
+      let w : m.len ≤ length t.out.now = p.within in
+      let e : m.len ≡ t.len + length a = p.past in
+      let r : t.len + length a ≤ length t.out.now = omega arith in
       record {
-        same = q.same ∙ ap₂ (λ (l : List ℕ) (i : ℕ). laid l i b) p.same p.past ∙ laid_on out at a r b;
+        same_reference = q.same_reference ∙ p.same_reference;
+        same = q.same ∙ ap₂ (λ (l : List ℕ) (i : ℕ). laid l i b) p.same p.past ∙ laid_on t.out.now t.len a r b;
         past = omega (arith, q.past, length-append a b);
         within = omega (arith, q.within, p.size);
         size = q.size ∙ p.size;
       }
 
 -- nothing
-pub printed_none : (out : List ℕ) (at : ℕ) → at ≤ length out → Printed [] out at out at
-printed_none out at h =
-    let z : at + 0 ≡ at = omega arith in
+pub printed_none : (t : Text) → t.len ≤ length t.out.now → Printed [] t t
+printed_none t h =
+    let z : t.len + 0 ≡ t.len = omega arith in
     record {
-      same = rw (append-nil (take at out), z) (sym (take-append-drop at out));
+      same_reference = refl;
+      same = rw (append-nil (take t.len t.out.now), z) (sym (take-append-drop t.len t.out.now));
       past = sym z;
       within = h;
       size = refl;
@@ -41,17 +64,17 @@ printed_none out at h =
 -- ---- in a loop
 
 -- what is printed of the rest from here on makes the whole
-pub record Going (rest whole out₀ : List ℕ) (at₀ : ℕ) (out : List ℕ) (at : ℕ) : Type 0 where
-  pub room : Room rest out at
-  pub size : length out ≡ length out₀
-  pub makes : (out' : List ℕ) (next : ℕ) → Printed rest out at out' next → Printed whole out₀ at₀ out' next
+pub record Going (rest whole : List ℕ) (first t : Text) : Type 0 where
+  pub room : Room rest t
+  pub size : length t.out.now ≡ length first.out.now
+  pub makes : (t' : Text) → Printed rest t t' → Printed whole first t'
 
-pub going_first : (whole out : List ℕ) (at : ℕ) → Room whole out at → Going whole whole out at out at
-going_first whole out at h = record { room = h; size = refl; makes = λ out' next p. p }
+pub going_first : (whole : List ℕ) (t : Text) → Room whole t → Going whole whole t t
+going_first whole t h = record { room = h; size = refl; makes = λ t' p. p }
 
-module _ {whole out₀ : List ℕ} {at₀ : ℕ} {out : List ℕ} {at : ℕ} where
-  pub going_on : {a rest m : List ℕ} {next : ℕ} → Going (a ++ rest) whole out₀ at₀ out at → Printed a out at m next → Going rest whole out₀ at₀ m next
-  going_on g p = record { room = room_next g.room p; size = p.size ∙ g.size; makes = λ out' past q. g.makes out' past (printed_then p q) }
+module _ {whole : List ℕ} {first t : Text} where
+  pub going_on : {a rest : List ℕ} {m : Text} → Going (a ++ rest) whole first t → Printed a t m → Going rest whole first m
+  going_on g p = record { room = room_next g.room p; size = p.size ∙ g.size; makes = λ t' q. g.makes t' (printed_then p q) }
 
-  pub going_ends : Going [] whole out₀ at₀ out at → Printed whole out₀ at₀ out at
-  going_ends g = g.makes out at (printed_none out at (omega (arith, g.room.fits)))
+  pub going_ends : Going [] whole first t → Printed whole first t
+  going_ends g = g.makes t (printed_none t (omega (arith, g.room.fits)))

@@ -1,6 +1,8 @@
 -- Lines of one or two numbers, by their kind; a reference and an entry that is set aside have one.
 use Rattle.std.specs.Prelude.{List, [], ◌∷◌, ◌++◌, ℕ, Bool}
 use Rattle.rules.specs.Lines.{Line, hex, address, address_or_dash, flag}
+use Rattle.result_lists.specs.Back.{set_in}
+use Rattle.printing.specs.declared.row.EntryRow.{EntryRow}
 use Rattle.printing.specs.declared.line.Kind.{Kind}
 use Rattle.printing.specs.declared.line.Kind.TheVariants.{Block, Way, Reference, Table, SetAside}
 
@@ -39,6 +41,7 @@ abbrev pub flags : Bool → Bool → Bool → Line
 flags c i l = 32 ∷ flag c ∷ flag i ∷ flag l ∷ 10 ∷ []
 
 -- the line of a function with its newline
-abbrev pub function_line : ℕ → ℕ → ℕ → ℕ → Bool → Bool → Bool → Line
-function_line entry end prologue epilogue c i l =
-    tagged 70 entry ++ (32 ∷ address end) ++ (32 ∷ address_or_dash prologue) ++ (32 ∷ address_or_dash epilogue) ++ flags c i l
+abbrev pub function_line : EntryRow → Line
+function_line e =
+    tagged 70 e.entry ++ (32 ∷ address e.end) ++ (32 ∷ address_or_dash e.prologue) ++ (32 ∷ address_or_dash e.epilogue) ++
+    flags (set_in e.flags 4) (set_in e.flags 8) (set_in e.flags 16)

@@ -1,8 +1,10 @@
-// The lines of a map, printed into a lent slice from a place on. Each function answers the place past what it printed.
+// The lines of a map, printed one behind the other into a lent slice.
 ghost use Rattle.std.specs.Prelude.{◌≡◌, [], ◌∷◌, ◌++◌, ◌<◌};
 ghost use Rattle.rules.specs.Lines as rules;
 ghost use Rattle.printing.specs.Printed.{Room, Printed};
 ghost use Rattle.printing.specs.Columns as columns;
+
+use crate::row::EntryRow;
 
 // What a line of one or two numbers tells.
 #[derive(Clone, Copy)]
@@ -28,17 +30,6 @@ impl Kind {
     }
 }
 
-fn put(out: &mut [u8], at: usize, bytes: &[u8]) -> usize
-    requires { Room bytes.now out.old at }
-    ensures { Printed bytes.now out.old at out.new result }
-{
-    let end = at + bytes.len();
-    out[at..end].copy_from_slice(bytes);
-    end
-}
-
-// ---- numbers
-
 #[tactic(auto, using(crate::proofs::Digits::digit_low, crate::proofs::Digits::digit_high))]
 fn digit(d: u64) -> u8
     requires { d < 16 }
@@ -48,138 +39,158 @@ fn digit(d: u64) -> u8
     if d < 10 { b'0' + d } else { b'A' + (d - 10) }
 }
 
-// A space and the lowest eight digits of a number.
-fn put_number(out: &mut [u8], at: usize, x: u64) -> usize
-    requires { Room (32 ∷ rules.hex 8 x) out.old at }
-    ensures { Printed (32 ∷ rules.hex 8 x) out.old at out.new result }
-{
-    let mut row = [b' '; 9];
-    let mut left = x;
-    for place in (1..9).rev() {
-        row[place] = digit(left % 16);
-        left /= 16;
-    }
-    put(out, at, &row)
-}
-
-// A space and an address.
-fn put_address(out: &mut [u8], at: usize, key: u64) -> usize
-    requires { Room (32 ∷ rules.address key) out.old at }
-    ensures { Printed (32 ∷ rules.address key) out.old at out.new result }
-{
-    put_number(out, at, key % 0x1_0000_0000)
-}
-
-// A space and an address, or a dash for none.
-#[tactic(auto, using(crate::proofs::Digits::dash, crate::proofs::Digits::no_dash))]
-fn put_address_or_dash(out: &mut [u8], at: usize, key: u64) -> usize
-    requires { Room (32 ∷ rules.address_or_dash key) out.old at }
-    ensures { Printed (32 ∷ rules.address_or_dash key) out.old at out.new result }
-{
-    match key {
-        0 => put(out, at, b" -"),
-        _ => put_address(out, at, key),
-    }
-}
-
-// ---- lines of one or two numbers
-
-// The letter and the first address.
-#[tactic(auto, using(crate::proofs::Printing::printed_then, crate::proofs::Printing::room_first, crate::proofs::Printing::room_next))]
-fn put_tagged(out: &mut [u8], at: usize, letter: u8, key: u64) -> usize
-    requires { Room (columns.tagged letter key) out.old at }
-    ensures { Printed (columns.tagged letter key) out.old at out.new result }
-{
-    let p = put(out, at, &[letter]);
-    put_address(out, p, key)
-}
-
-// The second number, of the kinds that have one.
-fn put_second(out: &mut [u8], at: usize, kind: Kind, second: u64) -> usize
-    requires { Room (columns.second kind second) out.old at }
-    ensures { Printed (columns.second kind second) out.old at out.new result }
-{
-    match kind {
-        Kind::Block => put_address_or_dash(out, at, second),
-        Kind::Way => put_address(out, at, second),
-        Kind::Table => put_number(out, at, second),
-        Kind::Reference | Kind::SetAside => at,
-    }
-}
-
-#[tactic(auto, using(crate::proofs::Printing::printed_then, crate::proofs::Printing::room_first, crate::proofs::Printing::room_next))]
-pub fn put_line(out: &mut [u8], at: usize, kind: Kind, first: u64, second: u64) -> usize
-    requires { Room (columns.line kind first second) out.old at }
-    ensures { Printed (columns.line kind first second) out.old at out.new result }
-{
-    let p = put_tagged(out, at, kind.letter(), first);
-    let q = put_second(out, p, kind, second);
-    put(out, q, b"\n")
-}
-
-// A line for each row of two columns.
-pub fn put_lines(out: &mut [u8], at: usize, kind: Kind, firsts: &[u64], seconds: &[u64]) -> usize
-    requires { Room (columns.lines kind firsts.now seconds.now) out.old at }
-    ensures { Printed (columns.lines kind firsts.now seconds.now) out.old at out.new result }
-{
-    let mut p = at;
-    for (first, second) in firsts.iter().zip(seconds) {
-        p = put_line(out, p, kind, *first, *second);
-    }
-    p
-}
-
-// ---- the line of a function, and the first line
-
 fn flag(b: bool) -> u8
     ensures { result ≡ rules.flag b }
 {
     b'0' + u8::from(b)
 }
 
-fn put_flags(out: &mut [u8], at: usize, conditional: bool, rfi: bool, load: bool) -> usize
-    requires { Room (columns.flags conditional rfi load) out.old at }
-    ensures { Printed (columns.flags conditional rfi load) out.old at out.new result }
-{
-    put(
-        out,
-        at,
-        &[b' ', flag(conditional), flag(rfi), flag(load), b'\n'],
-    )
+// What is printed so far: the first bytes of the lent slice.
+#[derive(Drop)]
+pub struct Text<'a> {
+    out: &'a mut [u8],
+    len: usize,
 }
 
-// A function: entry, end, prologue and epilogue, and whether it has a conditional `blr`, an `rfi`, a load of r1.
-#[tactic(auto, using(crate::proofs::Printing::printed_then, crate::proofs::Printing::room_first, crate::proofs::Printing::room_next))]
-pub fn put_function_line(
-    out: &mut [u8],
-    at: usize,
-    entry: u64,
-    end: u64,
-    slices: function_slices::Small,
-) -> usize
-    requires { Room
-        (columns.function_line entry end slices.prologue slices.epilogue slices.conditional slices.rfi
-        slices.load)
-        out.old at }
-    ensures { Printed
-        (columns.function_line entry end slices.prologue slices.epilogue slices.conditional slices.rfi
-        slices.load)
-        out.old at out.new result }
-{
-    let p = put_tagged(out, at, b'F', entry);
-    let q = put_address(out, p, end);
-    let t = put_address_or_dash(out, q, slices.prologue);
-    let u = put_address_or_dash(out, t, slices.epilogue);
-    put_flags(out, u, slices.conditional, slices.rfi, slices.load)
-}
+impl<'a> Text<'a> {
+    pub fn new(out: &'a mut [u8]) -> Text<'a>
+        ensures same_reference { result.out.ghost_name ≡ out.entry.ghost_name }
+        ensures lent { result.out.now ≡ out.old }
+        ensures empty { result.len ≡ 0 }
+    {
+        Text { out, len: 0 }
+    }
 
-// R and a number of two decimal digits.
-pub fn put_answer(out: &mut [u8], at: usize, answer: u32) -> usize
-    requires number { answer < 100 }
-    requires room { Room (rules.line_R answer ++ (10 ∷ [])) out.old at }
-    ensures { Printed (rules.line_R answer ++ (10 ∷ [])) out.old at out.new result }
-{
-    let tens = b'0' + (answer / 10) as u8;
-    let ones = b'0' + (answer % 10) as u8;
-    put(out, at, &[b'R', b' ', tens, ones, b'\n'])
+    pub fn len(&self) -> usize
+        ensures { result ≡ self.now.len }
+    {
+        self.len
+    }
+
+    fn put(&mut self, bytes: &[u8])
+        requires { Room bytes.now self.old }
+        ensures { Printed bytes.now self.old self.new }
+    {
+        let end = self.len + bytes.len();
+        self.out[self.len..end].copy_from_slice(bytes);
+        self.len = end;
+    }
+
+    // ---- numbers
+
+    // A space and the lowest eight digits of a number.
+    fn put_number(&mut self, x: u64)
+        requires { Room (32 ∷ rules.hex 8 x) self.old }
+        ensures { Printed (32 ∷ rules.hex 8 x) self.old self.new }
+    {
+        let mut row = [b' '; 9];
+        let mut left = x;
+        for place in (1..9).rev() {
+            row[place] = digit(left % 16);
+            left /= 16;
+        }
+        self.put(&row);
+    }
+
+    // A space and an address.
+    fn put_address(&mut self, key: u64)
+        requires { Room (32 ∷ rules.address key) self.old }
+        ensures { Printed (32 ∷ rules.address key) self.old self.new }
+    {
+        self.put_number(key % 0x1_0000_0000);
+    }
+
+    // A space and an address, or a dash for none.
+    #[tactic(auto, using(crate::proofs::Digits::dash, crate::proofs::Digits::no_dash))]
+    fn put_address_or_dash(&mut self, key: u64)
+        requires { Room (32 ∷ rules.address_or_dash key) self.old }
+        ensures { Printed (32 ∷ rules.address_or_dash key) self.old self.new }
+    {
+        match key {
+            0 => self.put(b" -"),
+            _ => self.put_address(key),
+        }
+    }
+
+    // ---- lines of one or two numbers
+
+    // The letter and the first address.
+    #[tactic(auto, using(crate::proofs::Printing::printed_then, crate::proofs::Printing::room_first, crate::proofs::Printing::room_next))]
+    fn put_tagged(&mut self, letter: u8, key: u64)
+        requires { Room (columns.tagged letter key) self.old }
+        ensures { Printed (columns.tagged letter key) self.old self.new }
+    {
+        self.put(&[letter]);
+        self.put_address(key);
+    }
+
+    // The second number, of the kinds that have one.
+    fn put_second(&mut self, kind: Kind, second: u64)
+        requires { Room (columns.second kind second) self.old }
+        ensures { Printed (columns.second kind second) self.old self.new }
+    {
+        match kind {
+            Kind::Block => self.put_address_or_dash(second),
+            Kind::Way => self.put_address(second),
+            Kind::Table => self.put_number(second),
+            Kind::Reference | Kind::SetAside => {}
+        }
+    }
+
+    #[tactic(auto, using(crate::proofs::Printing::printed_then, crate::proofs::Printing::room_first, crate::proofs::Printing::room_next))]
+    pub fn put_line(&mut self, kind: Kind, first: u64, second: u64)
+        requires { Room (columns.line kind first second) self.old }
+        ensures { Printed (columns.line kind first second) self.old self.new }
+    {
+        self.put_tagged(kind.letter(), first);
+        self.put_second(kind, second);
+        self.put(b"\n");
+    }
+
+    // A line for each row of two columns.
+    pub fn put_lines(&mut self, kind: Kind, firsts: &[u64], seconds: &[u64])
+        requires { Room (columns.lines kind firsts.now seconds.now) self.old }
+        ensures { Printed (columns.lines kind firsts.now seconds.now) self.old self.new }
+    {
+        for (first, second) in firsts.iter().zip(seconds) {
+            self.put_line(kind, *first, *second);
+        }
+    }
+
+    // ---- the line of a function, and the first line
+
+    fn put_flags(&mut self, conditional_blr: bool, rfi: bool, r1_load: bool)
+        requires { Room (columns.flags conditional_blr rfi r1_load) self.old }
+        ensures { Printed (columns.flags conditional_blr rfi r1_load) self.old self.new }
+    {
+        self.put(&[b' ', flag(conditional_blr), flag(rfi), flag(r1_load), b'\n']);
+    }
+
+    // A function: entry, end, prologue and epilogue, and whether it has a conditional `blr`, an `rfi`, a load of r1.
+    #[tactic(auto, using(crate::proofs::Printing::printed_then, crate::proofs::Printing::room_first, crate::proofs::Printing::room_next))]
+    pub fn put_function_line(&mut self, function: &EntryRow)
+        requires { Room (columns.function_line function.now) self.old }
+        ensures { Printed (columns.function_line function.now) self.old self.new }
+    {
+        self.put_tagged(b'F', function.entry);
+        self.put_address(function.end);
+        self.put_address_or_dash(function.prologue);
+        self.put_address_or_dash(function.epilogue);
+        self.put_flags(
+            function.has_conditional_blr(),
+            function.has_rfi(),
+            function.has_r1_load(),
+        );
+    }
+
+    // R and a number of two decimal digits.
+    pub fn put_answer(&mut self, answer: u32)
+        requires number { answer < 100 }
+        requires room { Room (rules.line_R answer ++ (10 ∷ [])) self.old }
+        ensures { Printed (rules.line_R answer ++ (10 ∷ [])) self.old self.new }
+    {
+        let tens = b'0' + (answer / 10) as u8;
+        let ones = b'0' + (answer % 10) as u8;
+        self.put(&[b'R', b' ', tens, ones, b'\n']);
+    }
 }

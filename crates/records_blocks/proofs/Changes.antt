@@ -17,7 +17,12 @@ use Rattle.rules.proofs.Blocks.{none, below_is, mark_over, new_over, mark_held, 
 use Rattle.rules.proofs.Sizes.{mark_grows}
 use Rattle.marks.proofs.Checks.{table_starts}
 use Rattle.records_blocks.specs.Sweep.{entry, row, after, swept}
-use Rattle.records_blocks.specs.Plan.{plan, seeking, looked_at, looking, changing, still, opening, placed, planned}
+use Rattle.std.specs.Prelude.{Ok}
+use Rattle.faults.specs.declared.Fault.{Fault}
+use Rattle.faults.specs.declared.Fault.TheVariants as faults
+use Rattle.faults.specs.declared.Fault.TheVariants.{Limit}
+use Rattle.faults.specs.Number.{number_of}
+use Rattle.records_blocks.specs.Plan.{plan, done, seeking, looked_at, looking, changing, still, refused, opening, placed, planned}
 use Rattle.records_blocks.specs.Records.{rows_of, only_cut, cut_in, mark_records, cut_records, change_records, IsDone}
 use Rattle.records_blocks.specs.declared.Block.{Block}
 use Rattle.records_blocks.specs.declared.Carry.{Carry}
@@ -121,10 +126,10 @@ module _ (only : Bool) (ys : List Block) (count a : ℕ) where
 
   -- the plan p does what is to be done
   abbrev pub Right : Plan → Type 0
-  Right p = (p.n ≤ length ys) × IsDone (change_records only count a ys) count ys (swept p.n 0 p.carry ys) p.done
+  Right p = (p.n ≤ length ys) × IsDone (change_records only count a ys) ys (swept p.n 0 p.carry ys) p.done
 
-  faulty : (c : Carry) (k : ℕ) → change_records only count a ys ≡ fault k → Right (still c count k)
-  faulty c k e = (omega arith, rw e (record { number = refl; count = refl; yes = refl; list = refl }))
+  faulty : (c : Carry) (f : Fault) → change_records only count a ys ≡ fault (number_of f) → Right (refused c f)
+  faulty c f e = (omega arith, rw e (record { said = refl; list = refl }))
 
   module _ (fit : count ≤ length ys) where
     size : length bs ≡ count
@@ -132,15 +137,15 @@ module _ (only : Bool) (ys : List Block) (count a : ℕ) where
 
     module _ (good : (is_aligned a && is_table bs) ≡ true) (rise : Rising start_of bs) (c : Carry) (s : Seen (seeking count a) c 0 (take count ys) (entry 0 0)) where
       -- the list has become the changed one
-      became : (d : Carry) (n m : ℕ) (y : Bool) (zs : List Row) → n ≤ length ys → m ≤ room → table only a bs ≡ zs → said only a bs ≡ y → length zs ≡ m → swept n 0 d ys ≡ entries zs ++ drop m ys → Right (plan d n 0 m y)
+      became : (d : Carry) (n m : ℕ) (y : Bool) (zs : List Row) → n ≤ length ys → m ≤ room → table only a bs ≡ zs → said only a bs ≡ y → length zs ≡ m → swept n 0 d ys ≡ entries zs ++ drop m ys → Right (plan d n (Ok (done m y)))
       became d n m y zs hn hm e k l w =
           let long : length (table only a bs) ≡ m = ap length e ∙ l in
           let is : change_records only count a ys ≡ ok (record { blocks = table only a bs; new = said only a bs }) = fits count a ys fit good only (rw long hm) in
-          (hn, rw is (record { number = refl; count = sym long; yes = sym k; list = w ∙ ap₂ (λ (l : List Row) (k : ℕ). entries l ++ drop k ys) (sym e) (sym long) }))
+          (hn, rw is (record { said = ap₂ (λ (m : ℕ) (y : Bool). ok (done m y)) (sym long) (sym k); list = w ∙ ap₂ (λ (l : List Row) (k : ℕ). entries l ++ drop k ys) (sym e) (sym long) }))
 
       -- there is no room for one more
-      nowhere : (d : Carry) → length (table only a bs) ≡ suc (length bs) → room ≤ count → Right (still d count 4)
-      nowhere d e l = faulty d 4 (full count a ys fit good only (omega (arith, e, size)))
+      nowhere : (d : Carry) → length (table only a bs) ≡ suc (length bs) → room ≤ count → Right (refused d Limit)
+      nowhere d e l = faulty d Limit (full count a ys fit good only (omega (arith, e, size)))
 
       abbrev p : ℕ
       p = c.at
@@ -160,7 +165,7 @@ module _ (only : Bool) (ys : List Block) (count a : ℕ) where
         unfolding reaches
         free = le-ltb _ _ (rw end_is at left)
 
-        stays : (table only a bs ≡ bs) × (said only a bs ≡ false) → Right (still c count 0)
+        stays : (table only a bs ≡ bs) × (said only a bs ≡ false) → Right (still c count)
         stays e = became c 0 count false bs (omega arith) h e.0 e.1 size (sym (take-append-drop count ys) ∙ ap (λ (l : List Block). l ++ drop count ys) (sym (same_entries (take count ys))))
 
         opens : (o : Bool) → only ≡ o → (t : Bool) → c.hit ≡ t → (u : Bool) → ltb count room ≡ u → Right (opening only room count c)
@@ -251,7 +256,7 @@ module _ (only : Bool) (ys : List Block) (count a : ℕ) where
           go true e = subst Right (sym (plan_place only (length ys) count c fit al so (leb-true _ _ e))) (at_place (leb-true _ _ e) p refl (leb c.below a) refl)
           go false e =
               let k : room < count = leb-false _ _ e in
-              subst Right (sym (plan_full only (length ys) count c fit al so k)) (faulty c 4 (full count a ys fit good only (omega (arith, table_grows a bs only, size))))
+              subst Right (sym (plan_full only (length ys) count c fit al so k)) (faulty c Limit (full count a ys fit good only (omega (arith, table_grows a bs only, size))))
 
   -- ---- the first sweep
 
@@ -287,17 +292,17 @@ module _ (only : Bool) (ys : List Block) (count a : ℕ) where
       tabled al x true e =
           sound_right fit (ap₂ ◌&&◌ x e) (table_rising bs e) c s (ap (λ (n : ℕ). n % 4) s.addr ∙ al) (sound ∙ e)
       tabled al x false e =
-          subst Right (sym (plan_unsound only (length ys) count c fit (ap (λ (n : ℕ). n % 4) s.addr ∙ al) (sound ∙ e))) (faulty c 3 (broken count a ys fit only (ap₂ ◌&&◌ x e)))
+          subst Right (sym (plan_unsound only (length ys) count c fit (ap (λ (n : ℕ). n % 4) s.addr ∙ al) (sound ∙ e))) (faulty c faults.List (broken count a ys fit only (ap₂ ◌&&◌ x e)))
 
       aligned : (t : Bool) → is_aligned a ≡ t → Right (planned only (length ys) count c)
       aligned true x = tabled (eqb-true _ _ x) x (is_table bs) refl
       aligned false x =
           let odd : c.addr % 4 ≡ 0 → ⊥ = λ z. eqb-false _ _ x (sym (ap (λ (n : ℕ). n % 4) s.addr) ∙ z) in
-          subst Right (sym (plan_odd only (length ys) count c fit odd)) (faulty c 3 (broken count a ys fit only (ap (λ (t : Bool). t && is_table bs) x)))
+          subst Right (sym (plan_odd only (length ys) count c fit odd)) (faulty c faults.List (broken count a ys fit only (ap (λ (t : Bool). t && is_table bs) x)))
 
   pub right : Right (planned only (length ys) count seen)
   right = go (ltb (length ys) count) refl
     where
       go : (t : Bool) → ltb (length ys) count ≡ t → Right (planned only (length ys) count seen)
-      go true e = subst Right (sym (plan_past only (length ys) count seen (ltb-true _ _ e))) (faulty seen 3 (past count a ys only (ltb-true _ _ e)))
+      go true e = subst Right (sym (plan_past only (length ys) count seen (ltb-true _ _ e))) (faulty seen faults.List (past count a ys only (ltb-true _ _ e)))
       go false e = rw (if_false e 0 count) (within (ltb-false _ _ e))

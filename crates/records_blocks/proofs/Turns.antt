@@ -7,7 +7,9 @@ use borrow.Author.Tests.{eq-eqb, ne_eqb, lt-ltb, le-ltb, le-leb, lt-leb}
 use Rattle.rules.specs.Choice.{if, if_true, if_false, by_if}
 use Rattle.rules.specs.Blocks.{is_aligned, is_block}
 use Rattle.records_blocks.specs.Sweep.{entry, row, checked, wrote, held, passed, found, moved}
-use Rattle.records_blocks.specs.Plan.{plan, changing, still, longer, opening, cutting, placed, planned}
+use Rattle.std.specs.Prelude.{Ok}
+use Rattle.faults.specs.declared.Fault.TheVariants.{List, Limit}
+use Rattle.records_blocks.specs.Plan.{plan, done, changing, still, refused, longer, opening, cutting, placed, planned}
 use Rattle.records_blocks.specs.declared.Block.{Block}
 use Rattle.records_blocks.specs.declared.Check.{Check}
 use Rattle.records_blocks.specs.declared.Carry.{Carry}
@@ -90,17 +92,17 @@ module _ (c : Carry) (i : ℕ) (b : Block) where
 -- ---- a plan
 
 module _ (only : Bool) (room count : ℕ) (c : Carry) where
-  pub open_only : only ≡ true → opening only room count c ≡ still c count 0
+  pub open_only : only ≡ true → opening only room count c ≡ still c count
   open_only h = if_true h _ _
 
   module _ (o : only ≡ false) where
-    pub open_held : c.hit ≡ true → opening only room count c ≡ still c count 0
+    pub open_held : c.hit ≡ true → opening only room count c ≡ still c count
     open_held h = if_false o _ _ ∙ if_true h _ _
 
     pub open_new : c.hit ≡ false → count < room → opening only room count c ≡ longer (changing c false 0 3) count true
     open_new h k = if_false o _ _ ∙ if_false h _ _ ∙ if_true (lt-ltb _ _ k) _ _
 
-    pub open_full : c.hit ≡ false → room ≤ count → opening only room count c ≡ still c count 4
+    pub open_full : c.hit ≡ false → room ≤ count → opening only room count c ≡ refused c Limit
     open_full h k = if_false o _ _ ∙ if_false h _ _ ∙ if_false (le-ltb _ _ k) _ _
 
   pub place_first : c.at ≡ 0 → placed only room count c ≡ opening only room count c
@@ -117,27 +119,27 @@ module _ (only : Bool) (room count : ℕ) (c : Carry) where
       unfolding placed
       cuts = if_false (ne_eqb _ _ e) _ _ ∙ if_false (lt-leb _ _ l) _ _
 
-      pub place_swap : c.hit ≡ true → placed only room count c ≡ plan (changing c true (c.at - 1) 4) count 0 count only
+      pub place_swap : c.hit ≡ true → placed only room count c ≡ plan (changing c true (c.at - 1) 4) count (Ok (done count only))
       place_swap h = cuts ∙ if_true h _ _
 
       pub place_cut : c.hit ≡ false → count < room → placed only room count c ≡ longer (changing c true (c.at - 1) 3) count only
       place_cut h k = cuts ∙ if_false h _ _ ∙ if_true (lt-ltb _ _ k) _ _
 
-      pub place_full : c.hit ≡ false → room ≤ count → placed only room count c ≡ still c count 4
+      pub place_full : c.hit ≡ false → room ≤ count → placed only room count c ≡ refused c Limit
       place_full h k = cuts ∙ if_false h _ _ ∙ if_false (le-ltb _ _ k) _ _
 
 module _ (only : Bool) (len count : ℕ) (c : Carry) where
-  pub plan_past : len < count → planned only len count c ≡ still c count 3
+  pub plan_past : len < count → planned only len count c ≡ refused c List
   unfolding planned if
   plan_past l = simp (lt-leb _ _ l)
 
   module _ (f : count ≤ len) where
-    pub plan_odd : (c.addr % 4 ≡ 0 → ⊥) → planned only len count c ≡ still c count 3
+    pub plan_odd : (c.addr % 4 ≡ 0 → ⊥) → planned only len count c ≡ refused c List
     unfolding planned if
     plan_odd h = simp (le-leb _ _ f, ne_eqb _ _ h)
 
     module _ (a : c.addr % 4 ≡ 0) where
-      pub plan_unsound : c.check.sound ≡ false → planned only len count c ≡ still c count 3
+      pub plan_unsound : c.check.sound ≡ false → planned only len count c ≡ refused c List
       unfolding planned if
       plan_unsound s = simp (le-leb _ _ f, eq-eqb _ _ a, s)
 
@@ -149,6 +151,6 @@ module _ (only : Bool) (len count : ℕ) (c : Carry) where
         unfolding planned
         plan_place l = if_true good _ _ ∙ if_true (le-leb _ _ l) _ _
 
-        pub plan_full : min 256 len < count → planned only len count c ≡ still c count 4
+        pub plan_full : min 256 len < count → planned only len count c ≡ refused c Limit
         unfolding planned
         plan_full l = if_true good _ _ ∙ if_false (lt-leb _ _ l) _ _

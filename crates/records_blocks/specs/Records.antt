@@ -2,7 +2,9 @@
 use Rattle.std.specs.Prelude.{◌≡◌, List, ◌++◌, map, Bool, ◌&&◌, ℕ, leb, length, take, drop}
 use Rattle.rules.specs.Choice.{if, Answer, ok, fault}
 use Rattle.rules.specs.Blocks.{Block as Row, Marked, reaches, cut, mark_in, most_blocks, is_aligned, is_table}
-use Rattle.marks.specs.Marks.{number_of, count_of, new_of}
+use Rattle.std.specs.Prelude.{Result}
+use Rattle.faults.specs.declared.Fault.{Fault}
+use Rattle.faults.specs.Outcome.{answer as told}
 use Rattle.records_blocks.specs.Sweep.{entry, row}
 use Rattle.records_blocks.specs.declared.Block.{Block}
 use Rattle.records_blocks.specs.declared.Done.{Done}
@@ -42,9 +44,12 @@ abbrev pub list_of : List Block → Answer Marked → List Block
 list_of l (ok m) = map entry_of m.blocks ++ drop (length m.blocks) l
 list_of l (fault k) = l
 
+-- what is said of the answer: how many blocks there are, and yes or no; or its fault
+abbrev pub done_of : Answer Marked → Answer Done
+done_of (ok m) = ok (record { count = length m.blocks; yes = m.new })
+done_of (fault k) = fault k
+
 -- the whole result
-pub record IsDone (answer : Answer Marked) (n : ℕ) (l l' : List Block) (r : Done) : Type 0 where
-  pub number : r.number ≡ number_of answer
-  pub count : r.count ≡ count_of n answer
-  pub yes : r.yes ≡ new_of answer
+pub record IsDone (answer : Answer Marked) (l l' : List Block) (r : Result Done Fault) : Type 0 where
+  pub said : told r ≡ done_of answer
   pub list : l' ≡ list_of l answer

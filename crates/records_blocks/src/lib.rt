@@ -3,14 +3,15 @@
 
 ghost use Rattle.std.specs.Prelude.{◌≡◌, true, false, ◌+◌, ◌<◌, ◌≤◌, min, length};
 ghost use Rattle.records_blocks.specs.Sweep.{checked, moved, turned, after, swept};
-ghost use Rattle.records_blocks.specs.Plan.{looking, changing, still, longer, opening, placed, planned};
+ghost use Rattle.records_blocks.specs.Plan.{looking, changing, still, refused, longer, opening, placed, planned};
 ghost use Rattle.records_blocks.specs.Records.{mark_records, cut_records, change_records, IsDone};
 
+use faults::Fault;
 use marks::is_block;
 
 // A block, from its start up to its end; the end of an open one is 0.
 #[repr(C)]
-#[derive(Clone, Copy)]
+#[derive(Clone, Copy, Debug, PartialEq, Eq)]
 pub struct Block {
     pub start: u64,
     pub end: u64,
@@ -141,11 +142,9 @@ fn sweep(blocks: &mut [Block], count: usize, c: Carry) -> Carry
     d
 }
 
-// What a mark or a cut came to: 0, or 3 or 4 where nothing was changed; how many blocks there are; whether a new open block starts there,
-// or a block was cut.
-#[derive(Clone, Copy)]
+/// The table after a mark or a cut: how many blocks there are, and whether a new open block starts there, or one was cut.
+#[derive(Clone, Copy, Debug, PartialEq, Eq)]
 pub struct Done {
-    pub number: u32,
     pub count: usize,
     pub yes: bool,
 }
@@ -155,7 +154,7 @@ pub struct Done {
 struct Plan {
     carry: Carry,
     n: usize,
-    done: Done,
+    done: Result<Done, Fault>,
 }
 
 // A sweep that checks count blocks and looks for addr; over none where there are fewer.
@@ -184,11 +183,7 @@ fn look(len: usize, count: usize, addr: u64) -> Plan
             },
         },
         n,
-        done: Done {
-            number: 0,
-            count,
-            yes: false,
-        },
+        done: Ok(Done { count, yes: false }),
     }
 }
 
@@ -208,18 +203,25 @@ fn change(c: Carry, cut: bool, last: usize, mode: u8) -> Carry
     d
 }
 
-// Nothing is done.
-fn stay(c: Carry, count: usize, number: u32) -> Plan
-    ensures { result ≡ still c count number }
+// Nothing is to be done.
+fn stay(c: Carry, count: usize) -> Plan
+    ensures { result ≡ still c count }
 {
     Plan {
         carry: c,
         n: 0,
-        done: Done {
-            number,
-            count,
-            yes: false,
-        },
+        done: Ok(Done { count, yes: false }),
+    }
+}
+
+// Nothing is done, since there is a fault.
+fn refuse(c: Carry, fault: Fault) -> Plan
+    ensures { result ≡ refused c fault }
+{
+    Plan {
+        carry: c,
+        n: 0,
+        done: Err(fault),
     }
 }
 
@@ -231,11 +233,10 @@ fn grow(c: Carry, count: usize, room: usize, yes: bool) -> Plan
     Plan {
         carry: c,
         n: count + 1,
-        done: Done {
-            number: 0,
+        done: Ok(Done {
             count: count + 1,
             yes,
-        },
+        }),
     }
 }
 
@@ -244,15 +245,15 @@ fn open(only: bool, room: usize, count: usize, c: Carry) -> Plan
     ensures { result ≡ opening only room count c }
 {
     if only {
-        return stay(c, count, 0);
+        return stay(c, count);
     }
     if c.hit {
-        return stay(c, count, 0);
+        return stay(c, count);
     }
     if count < room {
         return grow(change(c, false, 0, 3), count, room, true);
     }
-    stay(c, count, 4)
+    refuse(c, Fault::Limit)
 }
 
 // What is to be done, from what was seen of a table with room for so many blocks.
@@ -271,17 +272,13 @@ fn place(only: bool, room: usize, count: usize, c: Carry) -> Plan
         return Plan {
             carry: change(c, true, last, 4),
             n: count,
-            done: Done {
-                number: 0,
-                count,
-                yes: only,
-            },
+            done: Ok(Done { count, yes: only }),
         };
     }
     if count < room {
         return grow(change(c, true, last, 3), count, room, only);
     }
-    stay(c, count, 4)
+    refuse(c, Fault::Limit)
 }
 
 // How many blocks may stand in a slice of this length.
@@ -299,7 +296,7 @@ fn decide(only: bool, len: usize, count: usize, c: Carry) -> Plan
     ensures { result ≡ planned only len count c }
 {
     if len < count {
-        return stay(c, count, 3);
+        return refuse(c, Fault::List);
     }
     if c.addr % 4 == 0 {
         if c.check.sound {
@@ -307,16 +304,16 @@ fn decide(only: bool, len: usize, count: usize, c: Carry) -> Plan
             if count <= room {
                 return place(only, room, count, c);
             }
-            return stay(c, count, 4);
+            return refuse(c, Fault::Limit);
         }
-        return stay(c, count, 3);
+        return refuse(c, Fault::List);
     }
-    stay(c, count, 3)
+    refuse(c, Fault::List)
 }
 
 // One sweep that looks, and one that does what is then decided: `only` cuts, and opens no block.
-fn work(blocks: &mut [Block], only: bool, count: usize, addr: u64) -> Done
-    ensures { IsDone (change_records only count addr blocks.old) count blocks.old blocks.new
+fn work(blocks: &mut [Block], only: bool, count: usize, addr: u64) -> Result<Done, Fault>
+    ensures { IsDone (change_records only count addr blocks.old) blocks.old blocks.new
         result }
 {
     let p = look(blocks.len(), count, addr);
@@ -326,17 +323,17 @@ fn work(blocks: &mut [Block], only: bool, count: usize, addr: u64) -> Done
     q.done
 }
 
-// Marks addr as the start of a block: a block that reaches over it is cut there; else an open block starts there, unless one does. 3
-// where the table or addr breaks a rule, 4 where the table is full. The answer is yes where a new open block starts.
-pub fn mark(blocks: &mut [Block], count: usize, addr: u64) -> Done
-    ensures { IsDone (mark_records count addr blocks.old) count blocks.old blocks.new result }
+/// Marks addr as the start of a block: a block that reaches over it is cut there; else an open block starts there, unless one does. Nothing
+/// changes where the table or addr breaks a rule, or the table is full. The answer is yes where a new open block starts.
+pub fn mark(blocks: &mut [Block], count: usize, addr: u64) -> Result<Done, Fault>
+    ensures { IsDone (mark_records count addr blocks.old) blocks.old blocks.new result }
 {
     work(blocks, false, count, addr)
 }
 
-// Cuts the block that reaches over addr, if one does, with the checks of a mark. The answer is yes where one was cut.
-pub fn cut(blocks: &mut [Block], count: usize, addr: u64) -> Done
-    ensures { IsDone (cut_records count addr blocks.old) count blocks.old blocks.new result }
+/// Cuts the block that reaches over addr, if one does, with the checks of a mark. The answer is yes where one was cut.
+pub fn cut(blocks: &mut [Block], count: usize, addr: u64) -> Result<Done, Fault>
+    ensures { IsDone (cut_records count addr blocks.old) blocks.old blocks.new result }
 {
     work(blocks, true, count, addr)
 }

@@ -1,1 +1,1 @@
-pub mod Insertion
+pub mod Moved

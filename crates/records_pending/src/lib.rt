@@ -1,106 +1,62 @@
-// The pending addresses as a record that is lent, and changed where it lies.
+// The pending addresses as a record that is lent, and changed where it lies. It may hold anything: no order is asked of it.
 #![tactic(auto)]
 
-ghost use Rattle.std.specs.Prelude.{◌≡◌, ◌+◌, ◌<◌, length, drop};
+ghost use Rattle.std.specs.Prelude.{◌≡◌, ◌+◌, ◌≤◌, ◌<◌, None, OnOk, OnErr, drop};
+ghost use Rattle.rules.specs.Choice.{limited};
 ghost use Rattle.rules.specs.Step.{insert};
-ghost use Rattle.executor.specs.Pending.{stack};
-ghost use Rattle.records_pending.specs.Record.{IsPushed, IsPopped, IsAdded, IsTaken};
+ghost use Rattle.faults.specs.Outcome.{outcome};
+ghost use Rattle.worklist.specs.Pending.{first, rest};
+ghost use Rattle.records_pending.specs.Record.{list_of, IsBehind};
 
-// The first `count` addresses are pending, in ascending order.
+use faults::Fault;
+
+/// How many addresses may be pending.
+pub const MOST: usize = 256;
+
+/// The first `count` addresses are pending, in ascending order, so that the highest is taken off the end.
 #[repr(C)]
 #[derive(Clone, Copy)]
 pub struct Pending {
-    pub addresses: [u64; 256],
+    pub addresses: [u64; MOST],
     pub count: usize,
 }
 
-// Puts addr among the first `count` elements, which ascend; behind its equals. What lies past them stays.
-fn insert(a: &mut [u64; 256], count: usize, addr: u64)
-    requires { (count < 256) × (length a.old ≡ 256) }
-    ensures { (stack a.new (count + 1) ≡ insert addr (stack a.old count)) ×
-        (drop (count + 1) a.new ≡ drop (count + 1) a.old) }
+// Behind the last address that is no higher.
+fn place(addresses: &[u64], addr: u64) -> usize
+    ensures { IsBehind addresses.now addr result }
 {
-    let mut k = count;
-    while 0 < k && addr < a[k - 1] {
-        a[k] = a[k - 1];
-        k -= 1;
-    }
-    a[k] = addr;
-}
-
-#[derive(Clone, Copy)]
-struct Added {
-    count: usize,
-    done: bool,
-}
-
-// The work of push, on the array and the count.
-fn add(a: &mut [u64; 256], count: usize, addr: u64) -> Added
-    requires { length a.old ≡ 256 }
-    ensures { IsAdded a.old count addr a.new result }
-{
-    if count < 256 {
-        insert(a, count, addr);
-        return Added {
-            count: count + 1,
-            done: true,
-        };
-    }
-    Added { count, done: false }
-}
-
-// The highest pending address, or none.
-#[derive(Clone, Copy)]
-pub enum Popped {
-    At(u64),
-    Empty,
-}
-
-#[derive(Clone, Copy)]
-struct Taken {
-    count: usize,
-    top: Popped,
-}
-
-// The work of pop, on the array and the count.
-fn take(a: &mut [u64; 256], count: usize) -> Taken
-    ensures { (a.new ≡ a.old) × IsTaken a.old count result }
-{
-    if count == 0 {
-        return Taken {
-            count: 0,
-            top: Popped::Empty,
-        };
-    }
-    let k = count - 1;
-    if k < 256 {
-        return Taken {
-            count: k,
-            top: Popped::At(a[k]),
-        };
-    }
-    Taken {
-        count,
-        top: Popped::Empty,
+    match addresses.iter().rposition(|&pending| pending <= addr) {
+        Some(last) => last + 1,
+        None => 0,
     }
 }
 
-// Puts addr among the pending addresses. It says no, and changes nothing, where there are 256 or the count is above that.
-pub fn push(p: &mut Pending, addr: u64) -> bool
-    ensures { IsPushed p.old addr p.new result }
+/// Puts an address among them, behind the last that is no higher. Where there is no room for it nothing changes.
+pub fn push(p: &mut Pending, addr: u64) -> Result<(), Fault>
+    ensures outcome { outcome (list_of p.new) result ≡ limited MOST (insert addr (list_of p.old)) }
+    ensures count { OnOk result (p.new.count ≡ p.old.count + 1) }
+    ensures past { drop p.new.count p.new.addresses ≡ drop p.new.count p.old.addresses }
+    ensures full { OnErr result (p.new ≡ p.old) }
 {
-    let n = p.count;
-    let s = add(&mut p.addresses, n, addr);
-    p.count = s.count;
-    s.done
+    if MOST <= p.count {
+        return Err(Fault::Limit);
+    }
+    let at = place(&p.addresses[..p.count], addr);
+    p.addresses.copy_within(at..p.count, at + 1);
+    p.addresses[at] = addr;
+    p.count += 1;
+    Ok(())
 }
 
-// Takes the highest pending address. There is none, and nothing changes, where the count is 0 or above 256.
-pub fn pop(p: &mut Pending) -> Popped
-    ensures { IsPopped p.old p.new result }
+/// Takes the highest. There is none, and nothing changes, where more are told than the array holds.
+pub fn pop(p: &mut Pending) -> Option<u64>
+    ensures highest { p.old.count ≤ MOST → result ≡ first (list_of p.old) }
+    ensures left { p.old.count ≤ MOST → list_of p.new ≡ rest (list_of p.old) }
+    ensures past { MOST < p.old.count → (result ≡ None) × (p.new ≡ p.old) }
+    ensures same { p.new.addresses ≡ p.old.addresses }
 {
-    let n = p.count;
-    let s = take(&mut p.addresses, n);
-    p.count = s.count;
-    s.top
+    let left = p.count.checked_sub(1)?;
+    let highest = *p.addresses.get(left)?;
+    p.count = left;
+    Some(highest)
 }

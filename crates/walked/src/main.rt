@@ -17,7 +17,7 @@
 //! was stored or, after 1 to 3, `untouched` where it is as it was before; else `changed`. `=` ends an image's walks.
 #![tactic(auto)]
 
-mod walks;
+mod answer;
 
 use std::io::{self, BufWriter};
 
@@ -29,6 +29,6 @@ fn main(rt: HostRuntime) -> io::Result<()> {
         alloc,
         &text,
         &mut out,
-        |out, image| walks::answer(alloc, out, image),
+        |out, image| answer::answer(alloc, out, image),
     )
 }

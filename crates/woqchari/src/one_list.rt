@@ -2,9 +2,11 @@
 ghost use Rattle.std.specs.Prelude.{◌≡◌};
 ghost use Rattle.rules.specs.Check.{check};
 ghost use Rattle.rules.specs.Run.{run};
-ghost use Rattle.obj.specs.Lent.{given};
+ghost use Rattle.obj_image.specs.Lent.{given};
 ghost use Rattle.image.specs.Lists.{lent_of, image_at};
-ghost use Rattle.cfa.specs.Maps.{room_of, Told, Counted};
+ghost use Rattle.detection.specs.Maps.{room_of, reply, Told, Counted};
+
+use crate::tell;
 
 // image::check: 1, 2 or 3 by the first check that fails; 0 where none does.
 pub fn woqchari_check_image(image: &[u32], bytes: &[u8]) -> u32
@@ -26,11 +28,11 @@ pub fn woqchari_detect_in_image(
         (run (given (lent_of image.now bytes.now))
         (room_of rows.old lists.old))
         rows.old lists.old rows.new lists.new
-        (record { number = result; entries = entries.new; numbers = numbers.new }) }
+        (reply result entries.new numbers.new) }
     ensures counted { Counted (image_at image.now bytes.now) rows.new lists.new
-        (record { number = result; entries = entries.new; numbers = numbers.new }) }
+        (reply result entries.new numbers.new) }
 {
-    let m = cfa::detect_functions(
+    let found = detection::detect_functions(
         image::sections(image),
         bytes,
         image::outcomes(image),
@@ -41,7 +43,5 @@ pub fn woqchari_detect_in_image(
         rows,
         lists,
     );
-    *entries = m.entries;
-    *numbers = m.numbers;
-    m.number
+    tell(found, entries, numbers)
 }

@@ -5,10 +5,10 @@
 pub mod one_list;
 
 ghost use Rattle.rules.specs.Run.{run};
-ghost use Rattle.obj.specs.Lent.{lent, given, image};
-ghost use Rattle.cfa.specs.Maps.{room_of, Told, Counted};
+ghost use Rattle.obj_image.specs.Lent.{lent, given, image};
+ghost use Rattle.detection.specs.Maps.{room_of, reply, Told, Counted};
 
-// cfa::detect_functions: the number is the result, and how many entries and numbers there are is written through.
+// detection::detect_functions: the number is the result, and how many entries and numbers there are is written through.
 #[unsafe(no_mangle)]
 pub extern "C" fn woqchari_detect_functions(
     sections: &[u32],
@@ -30,13 +30,13 @@ pub extern "C" fn woqchari_detect_functions(
         objects.now skips.now entry.now))
         (room_of rows.old lists.old))
         rows.old lists.old rows.new lists.new
-        (record { number = result; entries = entries.new; numbers = numbers.new }) }
+        (reply result entries.new numbers.new) }
     ensures counted { Counted
         (image
         (lent sections.now bytes.now outcomes.now functions.now
         objects.now skips.now entry.now))
         rows.new lists.new
-        (record { number = result; entries = entries.new; numbers = numbers.new }) }
+        (reply result entries.new numbers.new) }
 {
     woqchari::woqchari_detect_functions(
         sections, bytes, outcomes, functions, objects, skips, entry, rows, lists, entries, numbers,

@@ -2,9 +2,9 @@
 ghost use Rattle.std.specs.Prelude.{◌≡◌};
 ghost use Rattle.rules.specs.Check.{check};
 ghost use Rattle.rules.specs.Run.{run};
-ghost use Rattle.obj.specs.Lent.{given};
+ghost use Rattle.obj_image.specs.Lent.{given};
 ghost use Rattle.image.specs.Lists.{lent_of, image_at};
-ghost use Rattle.cfa.specs.Maps.{room_of, Told, Counted};
+ghost use Rattle.detection.specs.Maps.{room_of, reply, Told, Counted};
 
 // image::check: 1, 2 or 3 by the first check that fails; 0 where none does.
 #[unsafe(no_mangle)]
@@ -28,9 +28,9 @@ pub extern "C" fn woqchari_detect_in_image(
         (run (given (lent_of image.now bytes.now))
         (room_of rows.old lists.old))
         rows.old lists.old rows.new lists.new
-        (record { number = result; entries = entries.new; numbers = numbers.new }) }
+        (reply result entries.new numbers.new) }
     ensures counted { Counted (image_at image.now bytes.now) rows.new lists.new
-        (record { number = result; entries = entries.new; numbers = numbers.new }) }
+        (reply result entries.new numbers.new) }
 {
     woqchari::one_list::woqchari_detect_in_image(image, bytes, rows, lists, entries, numbers)
 }

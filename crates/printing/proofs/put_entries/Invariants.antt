@@ -1,9 +1,8 @@
-use Rattle.std.proofs.Common.{◌-◌}
+use Rattle.std.proofs.Common.{drop}
 use Rattle.rules.specs.Lines.{text, lines_map}
-use Rattle.results.specs.Rows.{map_of}
+use Rattle.printing.specs.Rows.{entries_in}
 use Rattle.printing.proofs.Maps.{Left}
 use Rattle.printing.proofs.put_entries.Given as goal
 
-abbrev pub invariant-loop : goal.invariant-loop
-invariant-loop l =
-    Left (l.count - l.counter) l.rows l.lists (text (lines_map (map_of l.count l.initial.rows l.initial.lists))) l.initial.out l.at l.out l.p
+abbrev pub invariant-loop-row : goal.invariant-loop-row
+invariant-loop-row l = Left (drop l.row-index l.rows) l.numbers (text (lines_map (entries_in l.rows l.initial.numbers))) l.initial.text l.text

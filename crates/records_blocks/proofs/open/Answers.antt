@@ -12,4 +12,4 @@ pub returns-then-count-room : goal.returns-then-count-room
 returns-then-count-room c = (rw c.change.ensures at c.grow.ensures) ∙ sym (open_new _ _ _ _ c.if-only.false c.if-c.false c.if-count-room.true)
 
 pub returns : goal.returns
-returns c = c.stay-2.ensures ∙ sym (open_full _ _ _ _ c.if-only.false c.if-c.false c.if-count-room.false)
+returns c = c.refuse.ensures ∙ sym (open_full _ _ _ _ c.if-only.false c.if-c.false c.if-count-room.false)

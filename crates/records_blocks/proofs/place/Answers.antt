@@ -15,4 +15,4 @@ pub returns-then-count-room : goal.returns-then-count-room
 returns-then-count-room c = (rw c.change-then-count-room.ensures at c.grow.ensures) ∙ sym (place_cut _ _ _ _ c.if-p-eq0.false c.if-c.false c.if-c-2.false c.if-count-room.true)
 
 pub returns : goal.returns
-returns c = c.stay.ensures ∙ sym (place_full _ _ _ _ c.if-p-eq0.false c.if-c.false c.if-c-2.false c.if-count-room.false)
+returns c = c.refuse.ensures ∙ sym (place_full _ _ _ _ c.if-p-eq0.false c.if-c.false c.if-c-2.false c.if-count-room.false)

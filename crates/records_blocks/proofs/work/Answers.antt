@@ -26,8 +26,8 @@ module _ (only : Bool) (ys : List Block) (n a : ℕ) (p : Plan) (e₁ : p ≡ lo
     within : r.n ≤ length zs
     within = subst (λ (l : List Block). r.n ≤ length l) (sym zs_is) right.0
 
-    worked : (ws : List Block) → ws ≡ swept r.n 0 r.carry zs → IsDone (change_records only n a ys) n ys ws r.done
-    worked ws e = subst (λ (l : List Block). IsDone (change_records only n a ys) n ys l r.done) (sym (e ∙ ap (swept r.n 0 r.carry) zs_is)) right.1
+    worked : (ws : List Block) → ws ≡ swept r.n 0 r.carry zs → IsDone (change_records only n a ys) ys ws r.done
+    worked ws e = subst (λ (l : List Block). IsDone (change_records only n a ys) ys l r.done) (sym (e ∙ ap (swept r.n 0 r.carry) zs_is)) right.1
 
 pub sweep-c-requires : goal.sweep-c-requires
 sweep-c-requires c = inside c.args.only _ _ _ _ c.look-p.ensures

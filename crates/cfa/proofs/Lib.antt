@@ -1,3 +1,0 @@
-pub mod Room
-pub mod Whole
-pub mod Putting

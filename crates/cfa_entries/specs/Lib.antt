@@ -1,4 +1,0 @@
-pub mod Adding
-pub mod Listed
-pub mod Behind
-pub mod Looks

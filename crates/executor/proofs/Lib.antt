@@ -1,3 +1,0 @@
-pub mod Bits
-pub mod Stack
-pub mod Pending

@@ -1,6 +1,0 @@
-use Rattle.function_slices.specs.View.{part, view}
-use Rattle.function_slices.proofs.first_start.Goals as goal
-
-pub returns : goal.returns
-unfolding part view
-returns c = c.start.ensures

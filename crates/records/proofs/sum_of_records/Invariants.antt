@@ -1,8 +1,0 @@
-use Rattle.std.proofs.Common.{◌-◌, ◌≤◌}
-use Rattle.records.proofs.sum_of_records.Given as goal
-
-abbrev pub invariant-loop-i : goal.invariant-loop-i
-invariant-loop-i l = l.i ≤ 260
-
-abbrev pub decreases-loop-i : goal.decreases-loop-i
-decreases-loop-i l = 260 - l.i

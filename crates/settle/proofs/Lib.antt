@@ -1,6 +1,0 @@
-pub mod Cases
-pub mod Turns
-pub mod Verdicts
-pub mod Among
-pub mod TailCallsCases
-pub mod Answers

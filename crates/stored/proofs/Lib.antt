@@ -1,4 +1,0 @@
-pub mod Numbers
-pub mod Laying
-pub mod Columns
-pub mod Cases
