@@ -3,8 +3,8 @@
    Link with libwoqchari.a (tools/library builds it). The library allocates nothing, keeps nothing between calls, and reads and writes
    nothing but what it is lent. docs/ARCHITECTURE.md says more of each list.
 
-   A call takes up to 173,376 bytes of stack, whatever it is lent: measured on 2,606 images of all kinds, on x86-64. A thread with a stack of
-   172 KB (1,024 bytes each), the thread's own needs among them, crashed, and one with 176 KB did not; 256 KB leave room for the caller. */
+   A call takes up to some 310 KB of stack, whatever it is lent: measured on x86-64 by a program in C that ran with a stack of 320 KB (1,024
+   bytes each), its own needs among them, and crashed with 304. 512 KB leave room for the caller. */
 #ifndef WOQCHARI_H
 #define WOQCHARI_H
 
