@@ -60,8 +60,8 @@ fn detect(obj: &ObjInfo, rows: &mut [u64], lists: &mut [u64]) -> Result<MapSize,
     }
 }
 
-/// The map of an image, or the number of the rule that it breaks (1 to 3, and the lists stay as they were) or of the fault that the walk met
-/// (4 to 17, and the lists are zero). Nothing is asked of what is lent.
+/// The map of an image, or the number of the rule that it breaks (1 to 3, and the lists stay as they were) or of the fault that the walk
+/// met (4 to 17, and the lists are zero). Nothing is asked of what is lent.
 pub fn detect_functions(
     sections: &[u32],
     bytes: &[u8],

@@ -1,5 +1,6 @@
-// The public mark: one address in a lent table of blocks, which may be any. The table is two slices that the caller lends, one of starts and
-// one of ends, as C has them: so the search and the insertion are those of `blocks` on such columns, and no `tables::Map` could stand for it.
+// The public mark: one address in a lent table of blocks, which may be any. The table is two slices that the caller lends, one of starts
+// and one of ends, as C has them: so the search and the insertion are those of `blocks` on such columns, and no `tables::Map` could stand
+// for it.
 #![tactic(auto)]
 
 ghost use Rattle.std.specs.Prelude.{◌≡◌, ◌+◌, ◌<◌, ◌≤◌, min, true, [], ◌∷◌, length, drop};

@@ -1,5 +1,5 @@
-// A function's lists as numbers: the starts of its basic blocks and their ends, the words that ways on are from and where they go, references,
-// addresses and sizes of jump tables, possible blocks.
+// A function's lists as numbers: the starts of its basic blocks and their ends, the words that ways on are from and where they go,
+// references, addresses and sizes of jump tables, possible blocks.
 #![tactic(auto)]
 
 ghost use Rattle.std.specs.Prelude.{◌≡◌, ◌<◌, ℕ, true, false, length, map, min, take, drop};

@@ -1,5 +1,5 @@
-// The analysis of one function (FunctionSlices::analyze): its walk from a start, and passes until no basic block stands apart and no word is
-// left out.
+// The analysis of one function (FunctionSlices::analyze): its walk from a start, and passes until no basic block stands apart and no word
+// is left out.
 #![tactic(auto)]
 
 mod apart;
@@ -58,8 +58,8 @@ fn analyze_walk(walk: &mut Walk, around: &Around, start: u64) -> Result<bool, Fa
     analyze_ends(walk)
 }
 
-/// FunctionSlices::analyze, of the lists of a walk, from a start: the walk begins anew, unless the start is no new block. Whether there is a
-/// function.
+/// FunctionSlices::analyze, of the lists of a walk, from a start: the walk begins anew, unless the start is no new block. Whether there
+/// is a function.
 pub fn analyze(walk: &mut Walk, around: &Around, start: u64) -> Result<bool, Fault>
     ensures { (es : List Entry) →
         Knows around.now.known.now es →

@@ -81,8 +81,8 @@ fn finalize_entry(
     Ok(false)
 }
 
-/// AnalyzerState::finalize_functions: entries with lists and no end are finalized, those that can be. In the last rounds possible blocks are
-/// taken for the function's own where nothing speaks against it. Whether any was finalized.
+/// AnalyzerState::finalize_functions: entries with lists and no end are finalized, those that can be. In the last rounds possible blocks
+/// are taken for the function's own where nothing speaks against it. Whether any was finalized.
 pub fn finalize_functions(
     state: &mut AnalyzerState,
     lists: &mut [u64],

@@ -106,8 +106,8 @@ fn settle_block(
     settle(walk, around, block, answer, low, last)
 }
 
-/// All possible blocks from the address `low` on that can be settled, of the lists of a walk. In the last pass those of which nothing is known
-/// are the function's.
+/// All possible blocks from the address `low` on that can be settled, of the lists of a walk. In the last pass those of which nothing is
+/// known are the function's.
 pub fn settle_all(walk: &mut Walk, around: &Around, low: u64, last: bool) -> Result<(), Fault>
     ensures { (es : List Entry) →
         Knows around.now.known.now es →

@@ -118,7 +118,9 @@ fn may_follow(ways: &[Way], way: Way) -> bool
 fn push<const N: usize>(ways: &mut ArrayVec<Way, N>, way: Way)
     requires { Rising from_of (grouped ways.old.items) }
     ensures rising { Rising from_of (grouped ways.new.items) }
-    ensures pushed { Rising from_of (grouped (ways.old.items ++ way ∷ [])) → length ways.old.items < N → ways.new.items ≡ ways.old.items ++ way ∷ [] }
+    ensures pushed { Rising from_of (grouped (ways.old.items ++ way ∷ [])) →
+        length ways.old.items < N →
+        ways.new.items ≡ ways.old.items ++ way ∷ [] }
 {
     if may_follow(ways, way) && !ways.is_full() {
         ways.push(way);
