@@ -78,7 +78,7 @@ module _ {cap : Capacity} (es : List Entry) {k : ℕ} {a : AnalyzerState} {lists
     unfolding store
     step = after_ok _ (sym st.is) ∙ ap (fitting cap) (put_here st.holds k at st.place st.there y refl)
 
-    pub stored_full : (e : Fault) → IsFull lists from until total (numbers s) e → store cap k s end es ≡ fault (number_of e)
+    pub stored_full : {new : List ℕ} (e : Fault) → IsFull lists new from until total (numbers s) e → store cap k s end es ≡ fault (number_of e)
     stored_full e is =
         let within : total ≤ length lists = omega (arith, runs_long lists P B C begin) in
         step ∙ fitting_is cap (set fs at y)

@@ -54,16 +54,17 @@ Lent none (Some p) = ⊥
 Lent (some s) None = ⊥
 Lent (some s) (Some p) = IsLent s p.0 p.1.now
 
--- numbers in the place of those from one place up to another, and those behind moved; or there is no room
+-- numbers in the place of those from one place up to another, and those behind moved; or there is no room, and nothing is changed
 pub record IsReplaced (old new : List ℕ) (from until total : ℕ) (ns : List ℕ) : Type 0 where
   pub whole : total ≤ length old
   pub room : from + length ns + (total - until) ≤ length old
   pub is : new ≡ take from old ++ (ns ++ (between until total old ++ drop (from + length ns + (total - until)) old))
 
-pub record IsFull (old : List ℕ) (from until total : ℕ) (ns : List ℕ) (e : Fault) : Type 0 where
+pub record IsFull (old new : List ℕ) (from until total : ℕ) (ns : List ℕ) (e : Fault) : Type 0 where
   pub limit : number_of e ≡ 4
   pub full : total ≤ length old → length old < from + length ns + (total - until)
+  pub same : new ≡ old
 
 abbrev pub Replaced : {B : Type 0} → List ℕ → List ℕ → ℕ → ℕ → ℕ → List ℕ → Result B Fault → Type 0
 Replaced old new from until total ns (Ok b) = IsReplaced old new from until total ns
-Replaced old new from until total ns (Err e) = IsFull old from until total ns e
+Replaced old new from until total ns (Err e) = IsFull old new from until total ns e

@@ -56,6 +56,15 @@ impl AnalyzerState {
         }
     }
 
+    /// No entry again, with room for so many.
+    pub fn clear(&mut self, room: usize)
+        ensures { (lists : List ℕ) → Holds (record { entries = room; numbers = length lists }) self.new lists [] }
+    {
+        self.known.clear();
+        self.infos.clear();
+        self.room = room;
+    }
+
     /// The first entry that is not analyzed.
     pub fn first_unbounded_function(&self) -> Option<u64>
         ensures { (cap : maps.Capacity) (lists : List ℕ) (es : List Entry) →

@@ -42,7 +42,8 @@ fn total_len(infos: &[FunctionInfo]) -> usize
     total
 }
 
-// Puts a function's numbers, `count` of them, in the place of those from `from` up to `until`; those behind, up to `total`, are moved.
+// Puts a function's numbers, `count` of them, in the place of those from `from` up to `until`; those behind, up to `total`, are moved, if
+// they come to lie elsewhere. Where there is no room nothing is changed.
 fn replace(
     lists: &mut [u64],
     from: usize,
@@ -60,7 +61,7 @@ fn replace(
     if lists.len() < total || lists.len() < behind + (total - until) {
         return Err(Fault::Limit);
     }
-    lists.copy_within(until..total, behind);
+    runs::shift(lists, until, behind, total - until);
     put_numbers(slices, &mut lists[from..behind]);
     Ok(())
 }

@@ -145,7 +145,7 @@ pub fn detect(
     ensures { Told (record { entries = room; numbers = length lists.old })
         (rules.detect (image_of obj.now) (record { entries = room; numbers = length lists.old })) state.new lists.new result }
 {
-    *state = AnalyzerState::new(room);
+    state.clear(room);
     first::walk_given(state, lists, walk, obj)?;
     process_functions(state, lists, walk, obj)?;
     last_rounds(state, lists, walk, obj)?;

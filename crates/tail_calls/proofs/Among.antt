@@ -1,12 +1,14 @@
 -- Whether one of the next words begins a prologue, word by word.
-use Rattle.std.proofs.Common.{◌≡◌, ℕ, zero, suc, ◌-◌, ◌*◌, ◌/◌, ◌<◌, ◌≤◌, refl, sym, ap, ◌∙◌, Bool, true, false, List, [], length, take, drop, min, arith, drop_of_length-le, length-drop}
+use Rattle.std.proofs.Common.{◌≡◌, ℕ, zero, suc, ◌+◌, ◌-◌, ◌*◌, ◌/◌, ◌<◌, ◌≤◌, ◌||◌, refl, sym, ap, ◌∙◌, Bool, true, false, List, [], ◌∷◌, length, take, drop, min, arith, drop_of_length-le, length-drop}
 use Rattle.std.proofs.Math.Seq.{take-length}
 use native.Mathlib.Decide.{dec_lt}
 use Rattle.rules.specs.Choice.{if, if_true, if_false}
 use Rattle.rules.specs.Address.{address_of}
 use Rattle.rules.specs.Bytes.{words_in, words_at}
 use Rattle.rules.specs.Image.{Image, code_section, index, words_from}
-use Rattle.rules.specs.Sequences.{check_prologue_sequence, prologue_among}
+use Rattle.rules.specs.Sequences.{check_prologue_sequence, prologue_pairs, prologue_among}
+use Rattle.rules.specs.Words.{is_stwu, is_mflr}
+use Rattle.rules.proofs.Tests.{or_left_false, or_right_false}
 use Rattle.rules.proofs.Bytes as bytes
 use Rattle.jump_tables.proofs.Chunks.{words_drop}
 
@@ -20,6 +22,16 @@ none_left n b h = let z : n ≡ 0 = omega arith in rw z refl
 
 pub no_bytes : (n : ℕ) (b : List ℕ) → length b < 4 → false ≡ prologue_among n (words_in b)
 no_bytes n b h = sym (ap (prologue_among n) (bytes.no_word b 0 (omega arith)) ∙ no_words n)
+
+-- a word that begins no prologue by itself
+no_first : (w : ℕ) (ws : List ℕ) → (is_stwu w || is_mflr w) ≡ false → check_prologue_sequence (w ∷ ws) ≡ false
+unfolding check_prologue_sequence prologue_pairs
+no_first w ws h = rw (or_left_false (is_stwu w) (is_mflr w) h, or_right_false (is_stwu w) (is_mflr w) h) refl
+
+pub no_prologue : (b ws : List ℕ) (at w : ℕ) (p q : Bool) → at + 4 ≤ length b → words_in (drop at b) ≡ w ∷ ws → p ≡ is_stwu w → q ≡ is_mflr w → (p || q) ≡ false → false ≡ check_prologue_sequence (words_at 0 b at)
+no_prologue b ws at w p q inside e f g h =
+    let z : at - 0 ≡ at = omega arith in
+    sym (ap check_prologue_sequence (bytes.words_from 0 b at (omega arith) ∙ ap (λ (i : ℕ). words_in (drop i b)) z ∙ e) ∙ no_first w ws (rw (f, g) at h))
 
 -- one is
 module _ (n : ℕ) (b : List ℕ) (r : Bool) (some : 0 < n) (inside : 4 ≤ length b) (is_r : r ≡ check_prologue_sequence (words_at 0 b 0)) where

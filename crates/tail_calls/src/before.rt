@@ -1,7 +1,7 @@
 // The tests of a possible block before the trial walk.
 
-ghost use Rattle.std.specs.Prelude.{◌≡◌, List};
-ghost use Rattle.rules.specs.Bytes.{words_in};
+ghost use Rattle.std.specs.Prelude.{◌≡◌, ◌≤◌, List, length};
+ghost use Rattle.rules.specs.Bytes.{words_in, words_at};
 ghost use Rattle.rules.specs.Known.{Entry};
 ghost use Rattle.rules.specs.Sequences as sequences;
 ghost use Rattle.rules.specs.TailCall as rules;
@@ -12,6 +12,7 @@ ghost use Rattle.tail_calls.specs.Verdict.{tested};
 use crate::TailCall;
 use obj_info::{address_of, section_of};
 use ppc::sequences::check_prologue_sequence;
+use ppc::words::{is_mflr, is_stwu, word_at};
 use slices::FunctionSlices;
 use walks::{Around, is_recorded};
 
@@ -44,6 +45,18 @@ fn is_referred(slices: &FunctionSlices, around: &Around, addr: u64) -> bool
     slices.any_function_reference(low, addr) | around.any_between(low, addr)
 }
 
+// Whether the first of the words begins a prologue. Most words can be told not to by themselves.
+fn begins_prologue(words: &[u8]) -> bool
+    requires { 4 ≤ length words.now }
+    ensures { result ≡ sequences.check_prologue_sequence (words_at 0 words.now 0) }
+{
+    let word = word_at(words, 0);
+    if is_stwu(word) | is_mflr(word) {
+        return check_prologue_sequence(words, 0, 0);
+    }
+    false
+}
+
 // Whether one of the first `count` words begins a prologue.
 fn prologue_among(bytes: &[u8], count: u64) -> bool
     ensures { result ≡ sequences.prologue_among count (words_in bytes.now) }
@@ -51,7 +64,7 @@ fn prologue_among(bytes: &[u8], count: u64) -> bool
     let mut rest = bytes;
     let mut left = count;
     while left > 0 && rest.len() >= 4 {
-        if check_prologue_sequence(rest, 0, 0) {
+        if begins_prologue(rest) {
             return true;
         }
         rest = &rest[4..];

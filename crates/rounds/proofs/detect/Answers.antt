@@ -8,23 +8,23 @@ use Rattle.rounds.proofs.detect.Goals as goal
 pub returns-in_err-walk_given : goal.returns-in_err-walk_given
 returns-in_err-walk_given c =
     let p = err_from_is_err_and c.from_residual.result c.from_residual.ensures.1 in
-    rw (p.1, p.2) (given_fails _ _ _ (c.in_err-walk_given.ensures _ (c.new.ensures c.args.lists.now)))
+    rw (p.1, p.2) (given_fails _ _ _ (c.in_err-walk_given.ensures _ (c.clear.ensures c.args.lists.now)))
 
 pub process_functions-requires : goal.process_functions-requires
 process_functions-requires c =
-    let g = c.in_ok-walk_given.ensures _ (c.new.ensures c.args.lists.now) in
+    let g = c.in_ok-walk_given.ensures _ (c.clear.ensures c.args.lists.now) in
     record { ready = record { cap = _; entries = g.entries; holds = g.holds; table = given_table c.args.obj.now _ _ _ g } }
 
 pub returns-in_err-process_functions : goal.returns-in_err-process_functions
 returns-in_err-process_functions c =
     let p = err_from_is_err_and c.from_residual-in_err-process_functions.result c.from_residual-in_err-process_functions.ensures.1 in
-    let g = c.in_ok-walk_given.ensures _ (c.new.ensures c.args.lists.now) in
+    let g = c.in_ok-walk_given.ensures _ (c.clear.ensures c.args.lists.now) in
     let t = given_table c.args.obj.now _ _ _ g in
     rw (p.1, p.2) (rounds_fail _ _ g.entries g.is _ (c.in_err-process_functions.ensures _ g.entries g.holds t))
 
 pub last_rounds-requires : goal.last_rounds-requires
 last_rounds-requires c =
-    let g = c.in_ok-walk_given.ensures _ (c.new.ensures c.args.lists.now) in
+    let g = c.in_ok-walk_given.ensures _ (c.clear.ensures c.args.lists.now) in
     let t = given_table c.args.obj.now _ _ _ g in
     let f = c.in_ok-process_functions.ensures _ g.entries g.holds t in
     record { ready = record { cap = _; entries = f.entries; holds = f.holds; table = processed_table c.args.obj.now _ _ _ _ t f } }
@@ -32,7 +32,7 @@ last_rounds-requires c =
 pub returns-in_err-last_rounds : goal.returns-in_err-last_rounds
 returns-in_err-last_rounds c =
     let p = err_from_is_err_and c.from_residual-in_err-last_rounds.result c.from_residual-in_err-last_rounds.ensures.1 in
-    let g = c.in_ok-walk_given.ensures _ (c.new.ensures c.args.lists.now) in
+    let g = c.in_ok-walk_given.ensures _ (c.clear.ensures c.args.lists.now) in
     let t = given_table c.args.obj.now _ _ _ g in
     let f = c.in_ok-process_functions.ensures _ g.entries g.holds t in
     let u = processed_table c.args.obj.now _ _ _ _ t f in
@@ -40,7 +40,7 @@ returns-in_err-last_rounds c =
 
 pub returns : goal.returns
 returns c =
-    let g = c.in_ok-walk_given.ensures _ (c.new.ensures c.args.lists.now) in
+    let g = c.in_ok-walk_given.ensures _ (c.clear.ensures c.args.lists.now) in
     let t = given_table c.args.obj.now _ _ _ g in
     let f = c.in_ok-process_functions.ensures _ g.entries g.holds t in
     let u = processed_table c.args.obj.now _ _ _ _ t f in
