@@ -14,7 +14,7 @@ use Rattle.std.specs.Ordering.{nat_cmp, ordering_index, MatchOrdering}
 use Rattle.std.specs.declared.cmp.Ordering.TheVariants.{Less, Equal, Greater}
 use Rattle.std.specs.Option.{option_copied}
 use Rattle.std.specs.Slice.{IsItemAt}
-use Rattle.std.proofs.lemmas.Option.{slice_get_past, slice_get_read}
+use Rattle.std.proofs.lemmas.Option.{slice_get_past, slice_get_read, get_or_from_slice_get}
 use denote.Ref.{Bor}
 use Rattle.std.specs.List as lists
 use Rattle.std.specs.List.Sorted.{IsBinarySearchResult, IsNonDecreasingBy, IsPartitionPoint, IsSearchInRange}
@@ -74,6 +74,15 @@ module _ {A : Type 0} (key : A → ℕ) where
               let up : k < key (get_or l i d) = greater_key _ _ (parts.1 i d (omega arith) b) in
               has_is key d k l (rw at b) ∙ rw at (ne_eqb _ _ (λ e. omega arith))
           go (no n) = has_not key k l (omega arith)
+
+  -- a key above all goes behind the last
+  pub behind : (d : A) (k : ℕ) (l : List A) → Rising key l → (0 < length l → key (get_or l (length l - 1) d) < k) → IsPlace key k l (Err (length l))
+  behind d k l r h =
+      let at : rank key k l ≡ length l = rank_is key d k l (length l) (omega arith) (λ j b. omega (arith, rising_le d l j (length l - 1) r (omega arith) (omega arith), h (omega arith))) (λ b. omega arith) in
+      (sym at, has_not key k l (omega arith))
+
+  pub behind_last : (x : A) (k : ℕ) (l : List A) → Rising key l → slice_get l (length l - 1) ≡ Some x → key x < k → IsPlace key k l (Err (length l))
+  behind_last x k l r e h = behind x k l r (λ _. rw (get_or_from_slice_get l _ x x e) h)
 
   -- what a binary search by the key answers
   pub place : (d : A) (k : ℕ) (l : List A) (r : Result ℕ ℕ) → Rising key l → IsSearchInRange r (length l) → IsBinarySearchResult (λ y. nat_cmp (key y) k) l r → IsPlace key k l r

@@ -1,6 +1,6 @@
 // Values by address.
 
-ghost use Rattle.std.specs.Prelude.{◌≡◌, ◌≤◌, ◌-◌, List, [], length, map, option_map, slice_get};
+ghost use Rattle.std.specs.Prelude.{◌≡◌, ◌≤◌, ◌-◌, List, [], length, map, option_map, slice_get, true, Err};
 ghost use Rattle.rules.specs.Choice.{limited};
 ghost use Rattle.rules.specs.Ordered.{rank, has, put, Rising};
 ghost use Rattle.faults.specs.Outcome.{outcome};
@@ -101,11 +101,32 @@ impl<const N: usize> Map<N> {
         }
     }
 
+    // Whether a key is above all that are there.
+    fn is_behind(&self, key: u64) -> bool
+        ensures { result ≡ true → IsPlace key_of key self.now (Err (length self.now)) }
+    {
+        match self.rows.last() {
+            Some(last) => last.key < key,
+            None => true,
+        }
+    }
+
+    // Where the row with a key is, or where it would go. Rows are often put in in their order, so behind the last one is asked first.
+    fn place(&self, key: u64) -> Result<usize, usize>
+        ensures place { IsPlace key_of key self.now result }
+        ensures fits { length self.now ≤ N }
+    {
+        if self.is_behind(key) {
+            return Err(self.rows.len());
+        }
+        self.position(key)
+    }
+
     /// Puts a row in its place, instead of the row with its key if there is one.
     pub fn insert(&mut self, key: u64, value: u64) -> Result<(), Fault>
         ensures { outcome self.new result ≡ limited N (put key_of (row key value) self.old) }
     {
-        match self.position(key) {
+        match self.place(key) {
             Ok(at) => {
                 self.rows[at] = Row { key, value };
                 Ok(())

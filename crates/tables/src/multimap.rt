@@ -74,11 +74,7 @@ impl<const N: usize> Ways<N> {
             tos.now ≡ map goes_to ways →
             self.new ≡ grouped ways }
     {
-        let mut ways = ArrayVec::new();
-        for (&from, &to) in froms.iter().zip(tos) {
-            push(&mut ways, Way { from, to });
-        }
-        self.ways = ways;
+        fill(&mut self.ways, froms, tos);
     }
 
     /// Takes all of them out.
@@ -124,6 +120,22 @@ fn push<const N: usize>(ways: &mut ArrayVec<Way, N>, way: Way)
 {
     if may_follow(ways, way) && !ways.is_full() {
         ways.push(way);
+    }
+}
+
+// Ways on by two columns instead of those that are there, as far as they may stand behind one another and fit.
+fn fill<const N: usize>(ways: &mut ArrayVec<Way, N>, froms: &[u64], tos: &[u64])
+    ensures rising { Rising from_of (grouped ways.new.items) }
+    ensures filled { (rows : List Pair) →
+        Rising from_of (grouped rows) →
+        length rows ≤ N →
+        froms.now ≡ map leaves rows →
+        tos.now ≡ map goes_to rows →
+        ways.new.items ≡ rows }
+{
+    ways.clear();
+    for (&from, &to) in froms.iter().zip(tos) {
+        push(ways, Way { from, to });
     }
 }
 

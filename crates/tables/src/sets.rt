@@ -1,6 +1,6 @@
 // Addresses.
 
-ghost use Rattle.std.specs.Prelude.{◌≡◌, ◌≤◌, ◌&&◌, not, leb, ltb, [], length};
+ghost use Rattle.std.specs.Prelude.{◌≡◌, ◌≤◌, ◌&&◌, not, leb, ltb, [], length, true, Err};
 ghost use Rattle.rules.specs.Choice.{any, filter, limited};
 ghost use Rattle.rules.specs.Ordered.{self as own, rank, has, put, without, empty, Rising};
 ghost use Rattle.faults.specs.Outcome.{outcome};
@@ -84,11 +84,32 @@ impl<const N: usize> Set<N> {
         self.search(key).is_ok()
     }
 
+    // Whether an address is above all that are there.
+    fn is_behind(&self, key: u64) -> bool
+        ensures { result ≡ true → IsPlace own key self.now (Err (length self.now)) }
+    {
+        match self.items.last() {
+            Some(&last) => last < key,
+            None => true,
+        }
+    }
+
+    // Where an address is, or where it would go. Addresses are often put in in their order, so behind the last one is asked first.
+    fn place(&self, key: u64) -> Result<usize, usize>
+        ensures place { IsPlace own key self.now result }
+        ensures fits { length self.now ≤ N }
+    {
+        if self.is_behind(key) {
+            return Err(self.items.len());
+        }
+        self.search(key)
+    }
+
     /// Puts an address in its place, if it is not there.
     pub fn insert(&mut self, key: u64) -> Result<(), Fault>
         ensures { outcome self.new result ≡ limited N (put own key self.old) }
     {
-        match self.search(key) {
+        match self.place(key) {
             Ok(_) => Ok(()),
             Err(at) => {
                 if self.items.is_full() {

@@ -3,7 +3,7 @@ use Rattle.rules.specs.Ordered.{Rising}
 use Rattle.rules.specs.Slices.{from_of}
 use Rattle.tables.specs.declared.multimap.Way.{Way}
 use Rattle.tables.specs.Groups.{leaves, goes_to, grouped}
-use Rattle.tables.proofs.multimap.Ways.assign.Given as goal
+use Rattle.tables.proofs.multimap.fill.Given as goal
 
 abbrev pub invariant-loop-from : goal.invariant-loop-from
 invariant-loop-from g l = record {

@@ -1,10 +1,10 @@
 -- Ways on that ascend are put behind one another.
-use Rattle.std.proofs.Common.{refl, ap, ◌∙◌, length}
+use Rattle.std.proofs.Common.{refl, ◌∙◌, length}
 use Rattle.std.proofs.lemmas.List.{length_push}
 use Rattle.std.proofs.lemmas.Slice.Zip.{zip_turn, zip_end}
-use Rattle.tables.specs.Groups.{way, leaves, goes_to, grouped}
+use Rattle.tables.specs.Groups.{way, leaves, goes_to}
 use Rattle.tables.proofs.Columns.{pair_next, row_at, row_below, all_rows}
-use Rattle.tables.proofs.multimap.Ways.assign.Goals as goal
+use Rattle.tables.proofs.multimap.fill.Goals as goal
 
 pub loop-from-preserved : goal.loop-from-preserved
 loop-from-preserved g c = record {
@@ -18,7 +18,7 @@ loop-from-preserved g c = record {
       (c.loop-from.invariant.same ways rise few froms tos) c.push.ensures.pushed);
 }
 
-pub returns : goal.returns
-returns g c ways rise few froms tos =
+pub returns-clause-filled : goal.returns-clause-filled
+returns-clause-filled g c ways rise few froms tos =
     let t = zip_end c.args.froms.now c.args.tos.now c.loop-from.yielded c.into_iter-from-iterator.result c.loop-from.from-iterator c.next.new.self _ (cc) (cc) c.loop-from.yielded_by c.in-None.is c.next.ensures.steps in
-    ap grouped (c.loop-from.invariant.same ways rise few froms tos ∙ all_rows way leaves goes_to (λ _. refl) ways froms tos _ t)
+    c.loop-from.invariant.same ways rise few froms tos ∙ all_rows way leaves goes_to (λ _. refl) ways froms tos _ t
