@@ -31,7 +31,7 @@ impl AnalyzerState {
             return Err(Fault::Limit);
         }
         self.known.insert(key, 0)?;
-        self.infos.insert(at, FunctionInfo::default());
+        runs::insert(&mut self.infos, at, FunctionInfo::default());
         Ok(())
     }
 

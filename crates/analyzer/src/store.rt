@@ -61,7 +61,9 @@ fn replace(
     if lists.len() < total || lists.len() < behind + (total - until) {
         return Err(Fault::Limit);
     }
-    runs::shift(lists, until, behind, total - until);
+    if behind != until {
+        runs::move_within(lists, until, total, behind);
+    }
     put_numbers(slices, &mut lists[from..behind]);
     Ok(())
 }

@@ -1,9 +1,13 @@
 // Runs of elements within a lent slice: moved, copied in, filled, and one run put in the place of another.
 #![tactic(auto)]
 
+mod vectors;
+
 ghost use Rattle.std.specs.Prelude.{◌≡◌, ◌++◌, ◌+◌, ◌-◌, ◌<◌, ◌≤◌, length, take, drop, replicate};
 ghost use Rattle.std.proofs.Math.Seq.{paste};
 ghost use Rattle.runs.specs.Runs.{Fits, spliced};
+
+pub use vectors::{insert, move_within, remove, remove_range};
 
 // `count` elements from src on, up to dst.
 fn move_up(xs: &mut [u64], src: usize, dst: usize, count: usize)

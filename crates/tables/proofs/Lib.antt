@@ -3,3 +3,4 @@ pub mod Groups
 pub mod Splices
 pub mod Columns
 pub mod Kept
+pub mod Forward

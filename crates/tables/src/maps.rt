@@ -135,7 +135,7 @@ impl<const N: usize> Map<N> {
                 if self.rows.is_full() {
                     return Err(Fault::Limit);
                 }
-                self.rows.insert(at, Row { key, value });
+                runs::insert(&mut self.rows, at, Row { key, value });
                 Ok(())
             }
         }

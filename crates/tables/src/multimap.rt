@@ -1,6 +1,6 @@
 // The ways on from words: some addresses for each word.
 
-ghost use Rattle.std.specs.Prelude.{◌≡◌, ◌+◌, ◌-◌, ◌<◌, ◌≤◌, List, [], ◌∷◌, ◌++◌, suc, length, map};
+ghost use Rattle.std.specs.Prelude.{◌≡◌, ◌+◌, ◌-◌, ◌<◌, ◌≤◌, List, [], ◌∷◌, ◌++◌, suc, length, map, take, drop};
 ghost use Rattle.std.specs.List.{replace_range};
 ghost use Rattle.rules.specs.Ordered.{rank, put, Rising};
 ghost use Rattle.rules.specs.Slices.{from_of, count_branches};
@@ -167,9 +167,24 @@ fn replace<const N: usize>(
     requires room { length ways.old.items + length targets.now ≤ N + (until - at) }
     ensures { ways.new.items ≡ replace_range ways.old.items at until (map (way from) targets.now) }
 {
-    ways.drain(at..until);
+    runs::remove_range(ways, at, until);
     for &to in targets {
         ways.push(Way { from, to });
     }
-    ways[at..].rotate_right(targets.len());
+    bring_forward(&mut ways[at..], from, targets);
+}
+
+// Brings the last ways on, which go from a word to its targets, before the others.
+fn bring_forward(ways: &mut [Way], from: u64, targets: &[u64])
+    requires few { length targets.now ≤ length ways.old }
+    requires last { drop (length ways.old - length targets.now) ways.old ≡ map (way from) targets.now }
+    ensures { ways.new ≡ drop (length ways.old - length targets.now) ways.old ++
+        take (length ways.old - length targets.now) ways.old }
+{
+    let count = targets.len();
+    let others = ways.len() - count;
+    runs::move_within(ways, 0, others, count);
+    for (at, &to) in targets.iter().enumerate() {
+        ways[at] = Way { from, to };
+    }
 }

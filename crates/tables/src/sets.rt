@@ -115,7 +115,7 @@ impl<const N: usize> Set<N> {
                 if self.items.is_full() {
                     return Err(Fault::Limit);
                 }
-                self.items.insert(at, key);
+                runs::insert(&mut self.items, at, key);
                 Ok(())
             }
         }
@@ -126,7 +126,7 @@ impl<const N: usize> Set<N> {
         ensures { self.new ≡ without own key self.old }
     {
         if let Ok(at) = self.search(key) {
-            self.items.remove(at);
+            runs::remove(&mut self.items, at);
         }
     }
 

@@ -70,7 +70,7 @@ impl Pending {
             return Err(Fault::Limit);
         }
         let at = place(&self.addresses, address);
-        self.addresses.insert(at, address);
+        runs::insert(&mut self.addresses, at, address);
         Ok(())
     }
 
