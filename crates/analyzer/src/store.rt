@@ -61,9 +61,7 @@ fn replace(
     if lists.len() < total || lists.len() < behind + (total - until) {
         return Err(Fault::Limit);
     }
-    if behind != until {
-        runs::move_within(lists, until, total, behind);
-    }
+    runs::shift(lists, until, behind, total - until);
     put_numbers(slices, &mut lists[from..behind]);
     Ok(())
 }
