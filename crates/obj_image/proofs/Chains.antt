@@ -1,16 +1,16 @@
 -- Chains over rows: std's words for what they come to, and those of `rules`. Assumes nothing.
 use Prim.Native.Nat.{ℕ, suc, ◌+◌, ◌*◌, ◌/◌, ◌%◌, ◌<◌, ◌≤◌}
 use mathlib.Core.Path.{◌≡◌, refl, sym, ap, ◌∙◌}
-use mathlib.Core.Bool.{Bool, true, false, ◌&&◌, cond, not}
+use mathlib.Core.Bool.{Bool, true, false, ◌&&◌, cond}
 use mathlib.Core.List.{List, [], ◌∷◌, map}
 use native.Mathlib.Omega.{arith}
-use Rattle.std.proofs.Common.{add-zero}
 use lib.Dec.{eqb, ltb}
-use lib.ListN.{length}
+use lib.ListN.{length, drop, get_or, drop_of_length-le}
+use lib.Seq.{drop-cons}
+use native.Mathlib.Numerals.{add-one}
 use borrow.Author.Tests.{ltb-true, ltb-false, lt-ltb, le-ltb}
-use Rattle.std.specs.List.{list_all, filter, position_or_len}
-use Rattle.std.specs.Prelude.{Option, Some, None}
-use Rattle.rules.specs.Choice.{if}
+use Rattle.std.specs.List.{list_all, filter}
+use Rattle.rules.specs.Choice.{if, if_true, if_false}
 use Rattle.rules.specs.Given.{SectionRow}
 use Rattle.rules.specs.Check as rules
 use Rattle.rules.specs.Address.{key}
@@ -52,36 +52,20 @@ below_more p q = go (ltb p q) refl
     go true e = let h : p < q = ltb-true p q e in lt-ltb (1 + p) (suc q) (omega arith)
     go false e = let h : q ≤ p = ltb-false p q e in le-ltb (1 + p) (suc q) (omega arith)
 
--- where the first section that holds an address stands
-module _ (a : ℕ) where
-  abbrev pub place : List (List ℕ) → ℕ
-  place l = position_or_len (λ (s : Section). images.contains (part_of s) a) (map section_by l)
+-- the sections from a place on, of which each is asked whether it holds an address
+module _ (s : List ℕ) (whole : length s % 4 ≡ 0) (c : List (List ℕ)) (cut : c ≡ first_chunks 4 (length s / 4) s) (a n i : ℕ) (same : locate_in n (map read_row (drop i c)) a ≡ locate_in 1 (map read_row c) a) where
+  all : locate_in 1 (map read_row c) a ≡ locate_in 1 (rows 4 section_row s) a
+  all = ap (λ (l : List SectionRow). locate_in 1 l a) (sym (section_rows s whole c cut))
 
-  located_at : (n : ℕ) (l : List (List ℕ)) → locate_in n (map read_row l) a ≡ cond (ltb (place l) (length (map section_by l))) (key (n + place l) a) 0
-  unfolding if
-  located_at n [] = refl
-  located_at n (c ∷ l) = go (images.contains (part_of (section_by c)) a) (located_at (suc n) l)
-    where
-      go : (b : Bool) → locate_in (suc n) (map read_row l) a ≡ cond (ltb (place l) (length (map section_by l))) (key (suc n + place l) a) 0 → if b (key n a) (locate_in (suc n) (map read_row l) a) ≡ cond (ltb (cond (not b) (1 + place l) 0) (suc (length (map section_by l)))) (key (n + cond (not b) (1 + place l) 0) a) 0
-      go true h = rw (lt-ltb 0 (suc (length (map section_by l))) (omega arith), add-zero n) refl
-      go false h =
-          let f : n + (1 + place l) ≡ suc n + place l = omega arith in
-          rw (below_more (place l) (length (map section_by l)), f) h
+  turn : (d : List ℕ) (x : Section) (b : Bool) → i < length c → x ≡ section_by (get_or c i d) → b ≡ images.contains (part_of x) a → if b (key n a) (locate_in (suc n) (map read_row (drop (suc i) c)) a) ≡ locate_in 1 (map read_row c) a
+  turn d x b lt is e = rw (e, is) (sym (ap (λ (l : List (List ℕ)). locate_in n (map read_row l) a) (drop-cons c i d lt)) ∙ same)
 
-  module _ (s : List ℕ) (whole : length s % 4 ≡ 0) (c : List (List ℕ)) (cut : c ≡ first_chunks 4 (length s / 4) s) (r : Option ℕ) (is : r ≡ cond (ltb (place c) (length (map section_by c))) (Some (place c)) None) where
-    at_place : locate_in 1 (rows 4 section_row s) a ≡ cond (ltb (place c) (length (map section_by c))) (key (1 + place c) a) 0
-    at_place = ap (λ (l : List SectionRow). locate_in 1 l a) (section_rows s whole c cut) ∙ located_at 1 c
+  pub lies_here : (d : List ℕ) (x : Section) (b : Bool) (v : ℕ) → i < length c → x ≡ section_by (get_or c i d) → b ≡ images.contains (part_of x) a → b ≡ true → v ≡ a → n * 0x1_0000_0000 + v ≡ locate_in 1 (rows 4 section_row s) a
+  lies_here d x b v lt is e h is_v = rw is_v (sym (if_true h (key n a) (locate_in (suc n) (map read_row (drop (suc i) c)) a)) ∙ turn d x b lt is e ∙ all)
 
-    pub lies_at : (i : ℕ) → r ≡ Some i → (i + 1) * 0x1_0000_0000 + a ≡ locate_in 1 (rows 4 section_row s) a
-    lies_at i h = go (ltb (place c) (length (map section_by c))) is at_place
-      where
-        go : (b : Bool) → r ≡ cond b (Some (place c)) None → locate_in 1 (rows 4 section_row s) a ≡ cond b (key (1 + place c) a) 0 → (i + 1) * 0x1_0000_0000 + a ≡ locate_in 1 (rows 4 section_row s) a
-        go true e f = grind arith
-        go false e f = grind arith
+  pub lies_later : (d : List ℕ) (x : Section) (b : Bool) → i < length c → x ≡ section_by (get_or c i d) → b ≡ images.contains (part_of x) a → b ≡ false → locate_in (n + 1) (map read_row (drop (i + 1) c)) a ≡ locate_in 1 (map read_row c) a
+  lies_later d x b lt is e h = rw (add-one n, add-one i) (sym (if_false h (key n a) (locate_in (suc n) (map read_row (drop (suc i) c)) a)) ∙ turn d x b lt is e)
 
-    pub lies_nowhere : r ≡ None → 0 ≡ locate_in 1 (rows 4 section_row s) a
-    lies_nowhere h = go (ltb (place c) (length (map section_by c))) is at_place
-      where
-        go : (b : Bool) → r ≡ cond b (Some (place c)) None → locate_in 1 (rows 4 section_row s) a ≡ cond b (key (1 + place c) a) 0 → 0 ≡ locate_in 1 (rows 4 section_row s) a
-        go true e f = grind arith
-        go false e f = sym f
+  pub lies_nowhere : length c ≤ i → 0 ≡ locate_in 1 (rows 4 section_row s) a
+  lies_nowhere past = sym (ap (λ (l : List (List ℕ)). locate_in n (map read_row l) a) (drop_of_length-le c past)) ∙ same ∙ all
+

@@ -1,20 +1,20 @@
-use borrow.Author.Rules.{rules}
-use borrow.Author.Tests.{tests}
-use Rattle.std.proofs.lemmas.Iterator.{YieldsList-from_slice, YieldsList-from_map}
-use Rattle.std.proofs.lemmas.Iterator.Search.{position_from_yields_List}
-use Rattle.rules.specs.Image as images
-use Rattle.obj_image.specs.Sections.{section_by, part_of}
+-- Section by section. Assumes nothing.
+use Rattle.std.proofs.Common.{arith}
 use Rattle.obj_image.proofs.SectionRows.{located}
-use Rattle.obj_image.proofs.Chains.{lies_at, lies_nowhere}
+use Rattle.obj_image.proofs.Chains.{lies_here, lies_later, lies_nowhere}
 use Rattle.obj_image.proofs.sections.locate.Goals as goal
 
--- `obj::sections::locate` is `locate` of `rules`. Assumes nothing.
-pub returns-in-Some : goal.returns-in-Some
-returns-in-Some c =
-    let e = position_from_yields_List (λ s. images.contains (part_of s) c.args.a) _ _ c.position-at.result c.position-at.ensures.ran (YieldsList-from_map _ section_by (YieldsList-from_slice c.as_chunks.result.0.now cc) c.map.ensures.closure (λ x r q k. search rules)) (λ x b q k. search (rules, tests)) in
-    rw c.wide.ensures.0 (located _ _ _ (lies_at c.args.a c.args.sections.now c.requires.whole c.as_chunks.result.0.now c.as_chunks.ensures.front c.position-at.result e c.in-Some.i c.in-Some.is))
+pub returns-then-contains : goal.returns-then-contains
+returns-then-contains c =
+    located _ _ _
+    (lies_here c.args.sections.now c.requires.whole c.as_chunks.result.0.now c.as_chunks.ensures.front c.args.a c.loop-row.number c.loop-row.row-index c.loop-row.invariant.1 _ _ _ _ c.loop-row-test.true c.from.ensures c.contains.ensures c.if-contains.true c.wide.ensures.0)
 
-pub returns-in-None : goal.returns-in-None
-returns-in-None c =
-    let e = position_from_yields_List (λ s. images.contains (part_of s) c.args.a) _ _ c.position-at.result c.position-at.ensures.ran (YieldsList-from_map _ section_by (YieldsList-from_slice c.as_chunks.result.0.now cc) c.map.ensures.closure (λ x r q k. search rules)) (λ x b q k. search (rules, tests)) in
-    located _ _ _ (lies_nowhere c.args.a c.args.sections.now c.requires.whole c.as_chunks.result.0.now c.as_chunks.ensures.front c.position-at.result e c.in-None.is)
+pub loop-row-preserved : goal.loop-row-preserved
+loop-row-preserved c =
+    (omega (arith, c.loop-row.invariant.0),
+    lies_later c.args.sections.now c.requires.whole c.as_chunks.result.0.now c.as_chunks.ensures.front c.args.a c.loop-row.number c.loop-row.row-index c.loop-row.invariant.1 _ _ _ c.loop-row-test.true c.from.ensures c.contains.ensures c.if-contains.false)
+
+pub returns : goal.returns
+returns c =
+    located _ _ _
+    (lies_nowhere c.args.sections.now c.requires.whole c.as_chunks.result.0.now c.as_chunks.ensures.front c.args.a c.loop-row.number c.loop-row.row-index c.loop-row.invariant.1 (omega (arith, c.loop-row-test.false)))
