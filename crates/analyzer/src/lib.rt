@@ -45,7 +45,8 @@ fn is_unfinalized(row: &Row, info: &FunctionInfo) -> bool
 }
 
 impl AnalyzerState {
-    /// No entry.
+    /// No entry. (Where it is inlined the compiler makes the whole state twice on its caller's stack.)
+    #[inline(never)]
     pub fn new(room: usize) -> Self
         ensures { (lists : List ℕ) → Holds (record { entries = room; numbers = length lists }) result lists [] }
     {

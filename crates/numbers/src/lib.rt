@@ -94,6 +94,16 @@ fn put_column<T, F: Fn(&T) -> u64>(rows: &[T], number: F, column: &mut [u64])
     }
 }
 
+// Copies a column. (Of std's method the compiler makes a call of C's `memmove`, which nobody had to bring who links the library.)
+fn copy_from_slice(to: &mut [u64], from: &[u64])
+    requires { length to.old ≡ length from.now }
+    ensures { to.new ≡ from.now }
+{
+    for (at, &number) in from.iter().enumerate() {
+        to[at] = number;
+    }
+}
+
 /// Puts the numbers of a function's lists into a slice that is as long.
 pub fn put_numbers(slices: &FunctionSlices, out: &mut [u64])
     requires len { length out.old ≡ length (numbers_of (slices_of slices.now)) }
@@ -115,10 +125,10 @@ pub fn put_numbers(slices: &FunctionSlices, out: &mut [u64])
     put_column(blocks, |block| block.value, ends);
     put_column(ways, |way| way.from, froms);
     put_column(ways, |way| way.to, tos);
-    refers.copy_from_slice(references);
+    copy_from_slice(refers, references);
     put_column(tables, |table| table.key, addresses);
     put_column(tables, |table| table.value, sizes);
-    rest.copy_from_slice(possible);
+    copy_from_slice(rest, possible);
 }
 
 // The first `count` numbers, or as many as there are, and the others.

@@ -4,8 +4,8 @@ use mathlib.Core.List.{List, [], ◌∷◌, ◌++◌, append_assoc, append-nil}
 use Prim.Native.Nat.{ℕ, suc, ◌+◌, ◌-◌, ◌≤◌}
 use native.Mathlib.Numerals.{add-one}
 use native.Mathlib.Omega.{arith}
-use lib.ListN.{length, take, drop, set, length-append, length-drop, drop_of_length-le}
-use lib.Seq.{paste, length-paste, length-take-le, take-append-le, drop-append-le, take-take, take_at, drop_at, set_split}
+use lib.ListN.{length, take, drop, set, length-append, length-drop, drop_of_length-le, take-append-drop}
+use lib.Seq.{paste, length-paste, take-add, length-take-le, take-append-le, drop-append-le, take-take, take_at, drop_at, set_split}
 use Rattle.std.specs.List.{copy_within, insert}
 
 module _ {A : Type 0} (front : List A) (last item : A) (at n : ℕ) (inside : at ≤ length front) (n_is : n ≡ length front - at) where
@@ -40,3 +40,7 @@ module _ {A : Type 0} (front : List A) (last item : A) (at n : ℕ) (inside : at
 
   pub put_in : set Y at item ≡ insert front at item
   put_in = set_split Y at item (omega (arith, size, long)) ∙ ap₂ (λ (a b : List A). a ++ item ∷ b) head tail
+
+-- nothing is moved
+pub kept : {A : Type 0} (l : List A) (from until to : ℕ) → from ≡ to → l ≡ copy_within l from until to
+kept {A = A} l from until to e = rw e (sym (take-append-drop (to + (until - to)) l) ∙ ap (λ (s : List A). s ++ drop (to + (until - to)) l) (take-add to (until - to) l))

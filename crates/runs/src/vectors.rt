@@ -7,7 +7,7 @@ ghost use Rattle.arrayvec.specs.ArrayVec.{array_vec_len};
 
 use arrayvec::ArrayVec;
 
-/// Elements from one place up to another, copied to where they begin at a third.
+/// Elements from one place up to another, copied to where they begin at a third; where they begin there already, nothing is done.
 #[inline(never)]
 pub fn move_within<T: Copy>(items: &mut [T], from: usize, until: usize, to: usize)
     requires order { from ≤ until }
@@ -15,7 +15,9 @@ pub fn move_within<T: Copy>(items: &mut [T], from: usize, until: usize, to: usiz
     requires room { to + (until - from) ≤ length items.old }
     ensures { items.new ≡ copy_within items.old from until to }
 {
-    items.copy_within(from..until, to);
+    if from != to {
+        items.copy_within(from..until, to);
+    }
 }
 
 // The last element gives way to one at a place, from which on the others move up.
@@ -34,6 +36,10 @@ pub fn insert<T: Copy + Drop, const N: usize>(items: &mut ArrayVec<T, N>, at: us
     requires room { array_vec_len items.old < N }
     ensures items { items.new.items ≡ insert items.old.items at item }
 {
+    if at == items.len() {
+        items.push(item);
+        return;
+    }
     items.push(item);
     put_at(items.as_mut_slice(), at, item);
 }

@@ -60,6 +60,6 @@ returns c =
     let tos = c.put_column-4.ensures goes_to (λ x n p. search rules) ∙ sym (tos_are c.as_slice-ways.result.now) ∙ ap way_tos c.as_slice-ways.ensures.ways in
     let addresses = c.put_column-5.ensures key_of (λ x n p. search rules) ∙ ap (map key_of) c.as_slice-tables.ensures.rows ∙ sym (map_through own_address table_of key_of (λ _. refl) s.jump_table_references) in
     let sizes = c.put_column-6.ensures value_of (λ x n p. search rules) ∙ ap (map value_of) c.as_slice-tables.ensures.rows ∙ sym (map_through size_of table_of value_of (λ _. refl) s.jump_table_references) in
-    let references = c.copy_from_slice.ensures.after ∙ c.as_slice-references.ensures.items in
-    let possible = c.copy_from_slice-2.ensures.after ∙ c.as_slice-possible.ensures.items in
+    let references = c.copy_from_slice.ensures ∙ c.as_slice-references.ensures.items in
+    let possible = c.copy_from_slice-2.ensures ∙ c.as_slice-possible.ensures.items in
     rw (in_order, starts, ends, froms, tos, references, addresses, sizes, possible) refl
