@@ -89,7 +89,7 @@ fn are_digits(line: &[u8]) -> bool
 }
 
 // The number that digits stand for.
-fn hex(line: &[u8]) -> u32
+fn value_of(line: &[u8]) -> u32
     requires { length line.now ≤ 8 }
     ensures { result ≡ digits.hex_value line.now }
 {
@@ -100,12 +100,12 @@ fn hex(line: &[u8]) -> u32
     value
 }
 
-// The number that `count` digits stand for, from a place on.
-fn number(line: &[u8], from: usize, count: usize) -> u32
+/// The number that `count` digits stand for, from a place on.
+pub fn hex(line: &[u8], from: usize, count: usize) -> u32
     requires { (from + count ≤ length line.now) × (count ≤ 8) }
     ensures { result ≡ lines.number line.now from count }
 {
-    hex(&line[from..from + count])
+    value_of(&line[from..from + count])
 }
 
 // A frame of this kind, its three numbers of so many digits each; one of no digits is 0.
@@ -116,9 +116,9 @@ fn of_digits(line: &[u8], kind: Kind, a: usize, b: usize, c: usize) -> Option<Fr
     if line.len() != 2 + a + b + c {
         return None;
     }
-    let first = number(line, 2, a);
-    let second = number(line, 2 + a, b);
-    let third = number(line, 2 + a + b, c);
+    let first = hex(line, 2, a);
+    let second = hex(line, 2 + a, b);
+    let third = hex(line, 2 + a + b, c);
     if kind.allows(first, second, third) {
         Some(kind.frame(first, second, third))
     } else {
@@ -152,5 +152,5 @@ pub fn read_frame(line: &[u8]) -> Option<Frame>
     if line.len() < 2 || !are_digits(line) {
         return None;
     }
-    tagged(line, number(line, 0, 2))
+    tagged(line, hex(line, 0, 2))
 }

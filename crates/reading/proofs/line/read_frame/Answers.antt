@@ -11,4 +11,4 @@ returns-then-line-lt2 c =
     ]
 
 pub returns : goal.returns
-returns c = line_is c.args.line.now _ c.number.result c.if-line-lt2.false (sym c.if-not-are_digits.false ∙ c.are_digits.ensures) c.number.ensures c.tagged.ensures
+returns c = line_is c.args.line.now _ c.hex.result c.if-line-lt2.false (sym c.if-not-are_digits.false ∙ c.are_digits.ensures) c.hex.ensures c.tagged.ensures
