@@ -4,27 +4,35 @@
 //! text that is so long may go on, and is refused by R 01 as one with a line that is no frame is.
 #![tactic(auto)]
 
-ghost use Rattle.std.specs.Prelude.{◌≡◌, ◌≤◌, length, take, IfOk, OnOk, IfSome};
+ghost use Rattle.std.specs.Prelude.{◌≡◌, ◌≤◌, length, take, OnOk, IfSome};
 ghost use Rattle.std.specs.Io.KnownBytes.{Appends};
 ghost use Rattle.printing.specs.Told.{Begun};
 ghost use Rattle.mapping.specs.Answers.{fmap_text, text_room};
 
-use std::alloc::Global;
 use std::io::{self, Read, Write};
 
 /// How much is read at most.
-const TEXT_ROOM: u64 = 1048576;
+type Text = [u8; 1048576];
 
 /// Room for the longest text of a map.
 type Map = [u8; 1489000];
 
-/// What a reader gives, to its end or as far as there is room.
-fn read_text<R: Read + Drop>(alloc: Global, from: R) -> io::Result<Vec<u8>>
-    ensures { IfOk result (λ text. IfSome (R.remaining from) (λ bytes. text.items ≡ take text_room bytes)) }
+/// What a reader gives, to its end or as far as there is room, at the front of `text`: how much that is, and whether a read failed, which
+/// ends it too.
+fn read_text<R: Read>(from: &mut R, text: &mut [u8]) -> (usize, io::Result<()>)
+    ensures within { result.0 ≤ length text.new }
+    ensures bytes { OnOk result.1 (IfSome (R.remaining from.old)
+        (λ bytes. take result.0 text.new ≡ take (length text.old) bytes)) }
 {
-    let mut text = Vec::new(alloc);
-    from.take(TEXT_ROOM).read_to_end(&mut text)?;
-    Ok(text)
+    let mut count = 0;
+    while count < text.len() {
+        match from.read(&mut text[count..]) {
+            Ok(0) => break,
+            Ok(more) => count += more,
+            Err(error) => return (count, Err(error)),
+        }
+    }
+    (count, Ok(()))
 }
 
 /// What is printed of a text: `map` begins with it, and is as it was behind it. The answer is how long it is.
@@ -35,23 +43,27 @@ fn map_read(text: &[u8], map: &mut Map) -> usize
     mapping::fmap_text(text, map)
 }
 
-/// The map of the image that a reader gives, to a writer.
-fn write_map<R: Read + Drop, W: Write>(
-    alloc: Global,
-    from: R,
+/// The map of the image that a reader gives, to a writer. A read that fails is the image's end, and is told behind the map.
+fn write_map<R: Read, W: Write>(
+    from: &mut R,
+    text: &mut Text,
     map: &mut Map,
     to: &mut W,
 ) -> io::Result<()>
-    requires { length map.old ≡ 1489000 }
-    ensures { OnOk result (IfSome (R.remaining from)
+    requires text_room { length text.old ≡ 1048576 }
+    requires map_room { length map.old ≡ 1489000 }
+    ensures { OnOk result (IfSome (R.remaining from.old)
         (λ bytes. Appends (W.contents to.old) (W.contents to.new) (fmap_text (take text_room bytes)))) }
 {
-    let text = read_text(alloc, from)?;
-    let count = map_read(&text, map);
-    to.write_all(&map[..count])
+    let (read, outcome) = read_text(from, text);
+    let count = map_read(&text[..read], map);
+    to.write_all(&map[..count])?;
+    outcome
 }
 
-fn main(rt: HostRuntime) -> io::Result<()> {
+// What can be read is mapped, and what can be written of the map is written: nothing else is said of what fails.
+fn main(rt: HostRuntime) {
+    let mut text: Text = [0; 1048576];
     let mut map: Map = [0; 1489000];
-    write_map(rt.alloc(), rt.reader(), &mut map, &mut io::writer(&rt))
+    let _ = write_map(&mut rt.reader(), &mut text, &mut map, &mut io::writer(&rt));
 }

@@ -1,7 +1,6 @@
 //! The pending addresses, in a record and in the core's list.
 use crate::answers::{Both, Told, sum};
 use records_pending::{MOST, Pending};
-use std::alloc::{AllocError, Global};
 
 #[derive(Drop)]
 pub struct Lists {
@@ -10,21 +9,21 @@ pub struct Lists {
     // how many addresses the core is said to have
     count: usize,
     // what a record holds whose addresses are the core's: past them it is as it was
-    held: Vec<u64>,
+    held: [u64; MOST],
 }
 
 impl Lists {
     /// None is pending.
-    pub fn new(alloc: Global) -> Result<Lists, AllocError> {
-        Ok(Lists {
+    pub fn new() -> Lists {
+        Lists {
             record: Pending {
                 addresses: [0; MOST],
                 count: 0,
             },
             core: worklist::Pending::new(),
             count: 0,
-            held: vec![in alloc; 0; MOST]?,
-        })
+            held: [0; MOST],
+        }
     }
 
     // What the core has is held.
@@ -36,14 +35,24 @@ impl Lists {
         self.count = addresses.len();
     }
 
+    // Those that are held, of the count.
+    fn given(&self) -> &[u64] {
+        &self.held[..self.count.min(MOST)]
+    }
+
+    // The core is given what is held. Where that does not ascend it has no such list, and is not asked.
+    fn give(&mut self) {
+        self.core.clear();
+        for &address in self.held.iter().take(self.count) {
+            let _ = self.core.push(address);
+        }
+    }
+
     /// So many addresses are pending, whatever they are: the core is given those that are held.
     pub fn set_count(&mut self, count: usize) {
         self.record.count = count;
         self.count = count;
-        self.core.clear();
-        for &address in self.held.iter().take(count) {
-            let _ = self.core.push(address);
-        }
+        self.give();
     }
 
     // What both forms say of an operation.
@@ -66,10 +75,28 @@ impl Lists {
         }
     }
 
+    // A push where what is held does not ascend: behind the last that is no higher.
+    fn bare_push(&mut self, addr: u64) -> Option<u64> {
+        if MOST <= self.count {
+            return None;
+        }
+        let held = &self.held[..self.count];
+        let lower = held.iter().rposition(|&held| held <= addr);
+        let at = lower.map_or(0, |last| last + 1);
+        self.held.copy_within(at..self.count, at + 1);
+        self.held[at] = addr;
+        self.count += 1;
+        self.give();
+        Some(0)
+    }
+
     // The core's push, where its count allows one.
     fn core_push(&mut self, addr: u64) -> Option<u64> {
         if MOST < self.count {
             return None;
+        }
+        if !self.given().is_sorted() {
+            return self.bare_push(addr);
         }
         self.core.push(addr).ok()?;
         self.hold();
@@ -85,10 +112,21 @@ impl Lists {
         self.told('p', done, core)
     }
 
+    // A pop where what is held does not ascend: the last.
+    fn bare_pop(&mut self) -> Option<u64> {
+        let last = self.given().last().copied();
+        self.count = self.count.saturating_sub(1);
+        self.give();
+        last
+    }
+
     // The core's pop, where its count allows one.
     fn core_pop(&mut self) -> Option<u64> {
         if MOST < self.count {
             return None;
+        }
+        if !self.given().is_sorted() {
+            return self.bare_pop();
         }
         let highest = self.core.pop()?;
         self.hold();

@@ -22,57 +22,87 @@ mod operations;
 mod table;
 
 use answers::Both;
+use arrayvec::ArrayString;
 use lists::Lists;
-use operations::Operation;
-use std::alloc::{AllocError, Global};
-use std::io::{self, BufRead, BufReader, BufWriter, Write};
+use operations::{Line, Operation};
+use std::fmt::{Display, Write as _};
+use std::io::{self, Read, Write};
+use streams::{Ending, Lossy};
 use table::Table;
 
+/// Room for what is read of the input at a time.
+type Space = [u8; 4096];
+
+/// Room for the longest line that is printed.
+type Text = ArrayString<128>;
+
+/// Writes a line at once.
+fn print_line<W: Write, D: Display + Drop>(to: &mut W, line: D) -> io::Result<()> {
+    let mut text = Text::new();
+    writeln!(text, "{line}")?;
+    to.write_all(text.as_bytes())
+}
+
 /// What an operation came to, if that is printed.
-fn perform(
-    alloc: Global,
-    table: &mut Table,
-    lists: &mut Lists,
-    operation: Operation,
-) -> Result<Option<Both>, AllocError> {
+fn perform(table: &mut Table, lists: &mut Lists, operation: Operation) -> Option<Both> {
     match operation {
-        Operation::Mark(addr) => Ok(Some(table.mark(alloc, addr)?)),
-        Operation::Cut(addr) => Ok(Some(table.cut(alloc, addr)?)),
+        Operation::Mark(addr) => Some(table.mark(addr)),
+        Operation::Cut(addr) => Some(table.cut(addr)),
         Operation::Row(start, end) => {
             table.put_row(start, end);
-            Ok(None)
+            None
         }
         Operation::Blocks(count) => {
             table.set_count(count);
-            Ok(None)
+            None
         }
         Operation::Empty => {
-            *table = Table::new(alloc)?;
-            Ok(None)
+            *table = Table::new();
+            None
         }
-        Operation::Push(addr) => Ok(Some(lists.push(addr))),
-        Operation::Pop => Ok(Some(lists.pop())),
+        Operation::Push(addr) => Some(lists.push(addr)),
+        Operation::Pop => Some(lists.pop()),
         Operation::Pending(count) => {
             lists.set_count(count);
-            Ok(None)
+            None
         }
     }
 }
 
-fn main(rt: HostRuntime) -> io::Result<()> {
-    let alloc = rt.alloc();
-    let mut out = BufWriter::new(alloc, io::writer(&rt))?;
-    let mut table = Table::new(alloc)?;
-    let mut lists = Lists::new(alloc)?;
+/// Performs the operations of the input, as soon as they are read. A line is one where its newline comes.
+fn perform_all<R: Read, W: Write>(from: &mut R, to: &mut W) -> io::Result<()> {
+    let mut table = Table::new();
+    let mut lists = Lists::new();
+    let mut line = Line::new();
     let mut apart: u64 = 0;
-    for line in BufReader::new(alloc, rt.reader())?.split(alloc, b'\n') {
-        if let Some(operation) = Operation::of_line(&line?) {
-            if let Some(both) = perform(alloc, &mut table, &mut lists, operation)? {
-                writeln!(out, "{both}")?;
-                apart = apart.saturating_add(u64::from(!both.agree()));
+    let mut space: Space = [0; 4096];
+    // Nothing says that the input ends.
+    for _ in 0..u64::MAX {
+        let count = from.read(&mut space)?;
+        if count == 0 {
+            break;
+        }
+        for &byte in &space[..count] {
+            if byte != b'\n' {
+                line.read(byte);
+                continue;
             }
+            if let Some(operation) = line.operation() {
+                if let Some(both) = perform(&mut table, &mut lists, operation) {
+                    print_line(to, both)?;
+                    apart = apart.saturating_add(u64::from(!both.agree()));
+                }
+            }
+            line = Line::new();
         }
     }
-    writeln!(out, "disagreements {apart}")?;
-    out.flush()
+    print_line(to, format_args!("disagreements {apart}"))
+}
+
+fn main(rt: HostRuntime) {
+    let mut from = Ending { inner: rt.reader() };
+    let mut to = Lossy {
+        inner: io::writer(&rt),
+    };
+    let _ = perform_all(&mut from, &mut to);
 }

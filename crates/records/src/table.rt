@@ -6,27 +6,26 @@ use crate::answers::{Both, Told, mix};
 use faults::Fault;
 use marks::Marking;
 use records_blocks::{Block, Done};
-use std::alloc::{AllocError, Global};
 
 /// How many rows are lent.
 const ROWS: usize = 260;
 
 #[derive(Drop)]
 pub struct Table {
-    records: Vec<Block>,
+    records: [Block; ROWS],
     count: usize,
-    starts: Vec<u64>,
-    ends: Vec<u64>,
+    starts: [u64; ROWS],
+    ends: [u64; ROWS],
     blocks: usize,
 }
 
 /// Two columns as records.
-fn joined(alloc: Global, starts: &[u64], ends: &[u64]) -> Result<Vec<Block>, AllocError> {
-    starts
-        .iter()
-        .zip(ends)
-        .map(|(&start, &end)| Block { start, end })
-        .collect(alloc)
+fn joined(starts: &[u64; ROWS], ends: &[u64; ROWS]) -> [Block; ROWS] {
+    let mut blocks = [Block { start: 0, end: 0 }; ROWS];
+    for (block, (&start, &end)) in blocks.iter_mut().zip(starts.iter().zip(ends)) {
+        *block = Block { start, end };
+    }
+    blocks
 }
 
 fn sum(blocks: &[Block]) -> u64
@@ -39,21 +38,20 @@ fn sum(blocks: &[Block]) -> u64
 
 impl Table {
     /// No block.
-    pub fn new(alloc: Global) -> Result<Table, AllocError> {
-        let none = Block { start: 0, end: 0 };
-        Ok(Table {
-            records: vec![in alloc; none; ROWS]?,
+    pub fn new() -> Table {
+        Table {
+            records: [Block { start: 0, end: 0 }; ROWS],
             count: 0,
-            starts: vec![in alloc; 0; ROWS]?,
-            ends: vec![in alloc; 0; ROWS]?,
+            starts: [0; ROWS],
+            ends: [0; ROWS],
             blocks: 0,
-        })
+        }
     }
 
     /// Puts a row behind the last, if there is room for it.
     pub fn put_row(&mut self, start: u64, end: u64) {
         let last = self.count;
-        if last < self.records.len() && last < self.starts.len() && last < self.ends.len() {
+        if last < ROWS {
             self.records[last] = Block { start, end };
             self.starts[last] = start;
             self.ends[last] = end;
@@ -92,16 +90,10 @@ impl Table {
     }
 
     // What both forms say of an operation.
-    fn told(
-        &mut self,
-        alloc: Global,
-        letter: char,
-        done: Result<Done, Fault>,
-        marking: Marking,
-    ) -> Result<Both, AllocError> {
+    fn told(&mut self, letter: char, done: Result<Done, Fault>, marking: Marking) -> Both {
         self.blocks = marking.count;
-        let core = joined(alloc, &self.starts, &self.ends)?;
-        Ok(Both {
+        let core = joined(&self.starts, &self.ends);
+        Both {
             letter,
             records: self.told_of_records(done),
             core: Told {
@@ -111,7 +103,7 @@ impl Table {
                 sum: sum(&core),
             },
             same: self.records.as_slice() == core.as_slice(),
-        })
+        }
     }
 
     // The core's mark.
@@ -120,10 +112,10 @@ impl Table {
     }
 
     /// Marks an address in both.
-    pub fn mark(&mut self, alloc: Global, addr: u64) -> Result<Both, AllocError> {
+    pub fn mark(&mut self, addr: u64) -> Both {
         let done = records_blocks::mark(&mut self.records, self.count, addr);
         let marking = self.core_mark(addr);
-        self.told(alloc, 'm', done, marking)
+        self.told('m', done, marking)
     }
 
     // What the core says of a cut: of a mark where one was made or refused, yes where the mark opened no block.
@@ -144,9 +136,9 @@ impl Table {
     }
 
     /// Cuts the block that reaches over an address in both.
-    pub fn cut(&mut self, alloc: Global, addr: u64) -> Result<Both, AllocError> {
+    pub fn cut(&mut self, addr: u64) -> Both {
         let done = records_blocks::cut(&mut self.records, self.count, addr);
         let marking = self.core_cut(done, addr);
-        self.told(alloc, 'c', done, marking)
+        self.told('c', done, marking)
     }
 }

@@ -6,21 +6,20 @@
 
 mod cutting;
 
-ghost use Rattle.std.specs.Prelude.{◌≡◌, ◌+◌, ◌≤◌, ◌++◌, length, vec_len, codes, IfOk, OnOk};
-ghost use Rattle.std.specs.Io.{StartsWith};
+ghost use Rattle.std.specs.Prelude.{◌≡◌, ◌<◌, ◌≤◌, ◌++◌, length, take, codes, IfOk, OnOk};
 ghost use Rattle.std.specs.Io.KnownBytes.{Appends};
 ghost use Rattle.printing.specs.Told.{Begun};
 ghost use Rattle.mapping.specs.Answers.{fmap_text, text_room};
 ghost use Rattle.replay.specs.Rest.{Rest, kept, LineEnded};
 
-use std::alloc::{AllocError, AllocFailed, Global};
-use std::io::{self, BufWriter, Read, Write};
+use std::io::{self, Read, Write};
+use streams::{Ending, Lossy};
 
 /// The room that `fmap` has for an image, which is shorter.
 const IMAGE_ROOM: usize = 1048576;
 
-/// How much is read at a time.
-const READ_ROOM: u64 = 65536;
+/// Room for the longest image, and for 65,536 bytes more.
+type Text = [u8; 1114112];
 
 /// Room for the longest text of a map.
 type Map = [u8; 1489000];
@@ -62,78 +61,96 @@ fn answer_ended<W: Write>(text: &[u8], map: &mut Map, to: &mut W) -> io::Result<
 
 // ---- the text that is read
 
-/// What is left of the text behind the images that were answered. Too much for an image is refused whatever comes; it is cut down to a
-/// line that is no frame, which is refused too, and the last two bytes, with which a line `=` may begin.
-fn keep_rest(alloc: Global, text: &[u8], at: usize) -> Result<Vec<u8>, AllocError>
-    requires { at ≤ length text.now }
-    ensures kept { IfOk result (λ rest. rest.items ≡ kept at text.now) }
-    ensures few { IfOk result (λ rest. vec_len rest ≤ text_room) }
+/// What is left of the first `count` bytes behind the images that were answered, put at the text's front; how much it is. Too much for an
+/// image is refused whatever comes; it is cut down to a line that is no frame, which is refused too, and the last two bytes, with which a
+/// line `=` may begin.
+fn keep_rest(text: &mut [u8], at: usize, count: usize) -> usize
+    requires behind { at ≤ count }
+    requires within { count ≤ length text.old }
+    ensures kept { take result text.new ≡ kept at (take count text.old) }
+    ensures whole { result ≡ length (kept at (take count text.old)) }
+    ensures few { result ≤ text_room }
 {
-    let rest = &text[at..];
-    if rest.len() < IMAGE_ROOM {
-        return Vec::from_slice(alloc, rest);
+    let rest = count - at;
+    if rest < IMAGE_ROOM {
+        text.copy_within(at..count, 0);
+        return rest;
     }
-    let a = text[text.len() - 2];
-    let b = text[text.len() - 1];
-    Vec::from_slice(alloc, &[b'?', a, b])
+    let a = text[count - 2];
+    let b = text[count - 1];
+    text[0] = b'?';
+    text[1] = a;
+    text[2] = b;
+    3
 }
 
-/// More of the input, put at the text's end; how much. None is its end.
-fn fill<R: Read>(from: &mut R, text: &mut Vec<u8>) -> io::Result<usize>
-    ensures more { IfOk result (λ more. vec_len text.new ≡ vec_len text.old + more) }
-    ensures behind { StartsWith text.new.items text.old.items }
+/// More of the input, put behind the first `count` bytes; how many there are then. No more than before is the input's end.
+fn fill<R: Read>(from: &mut R, text: &mut [u8], count: usize) -> io::Result<usize>
+    requires { count ≤ length text.old }
+    ensures more { IfOk result (λ filled. (count ≤ filled) × (filled ≤ length text.new)) }
+    ensures behind { take count text.new ≡ take count text.old }
 {
-    from.by_ref().take(READ_ROOM).read_to_end(text)
+    let more = from.read(&mut text[count..])?;
+    Ok(count + more)
 }
 
-/// A newline behind a last byte `=`, so that this may be a line `=` too.
-fn end_line(text: &mut Vec<u8>) -> Result<(), AllocFailed<u8>>
-    ensures { OnOk result (LineEnded text.old.items text.new.items) }
+/// A newline behind a last byte `=` of the first `count`, so that this may be a line `=` too; how many bytes there are then.
+fn end_line(text: &mut [u8], count: usize) -> usize
+    requires { count < length text.old }
+    ensures within { result ≤ length text.new }
+    ensures ended { LineEnded (take count text.old) (take result text.new) }
 {
-    if text.last() == Some(&b'=') {
-        text.push(b'\n')?;
+    if count == 0 || text[count - 1] != b'=' {
+        return count;
     }
-    Ok(())
+    text[count] = b'\n';
+    count + 1
 }
 
 // ---- all of it
 
-/// The last of the input.
-fn replay_last<W: Write>(text: &mut Vec<u8>, map: &mut Map, to: &mut W) -> io::Result<()>
-    requires { length map.old ≡ 1489000 }
+/// The last `count` bytes of the input.
+fn replay_last<W: Write>(text: &mut [u8], count: usize, map: &mut Map, to: &mut W) -> io::Result<()>
+    requires within { count < length text.old }
+    requires room { length map.old ≡ 1489000 }
 {
-    end_line(text)?;
-    let at = answer_ended(text, map, to)?;
-    if at < text.len() {
-        answer(&text[at..], map, to)?;
+    let count = end_line(text, count);
+    let at = answer_ended(&text[..count], map, to)?;
+    if at < count {
+        answer(&text[at..count], map, to)?;
     }
     Ok(())
 }
 
 fn replay<R: Read, W: Write>(
-    alloc: Global,
     from: &mut R,
+    text: &mut Text,
     map: &mut Map,
     to: &mut W,
 ) -> io::Result<()>
-    requires { length map.old ≡ 1489000 }
+    requires text_room { length text.old ≡ 1114112 }
+    requires map_room { length map.old ≡ 1489000 }
 {
-    let mut text = Vec::new(alloc);
+    let mut count = 0;
     // Nothing says that the input ends.
     for _ in 0..u64::MAX {
-        if fill(from, &mut text)? == 0 {
+        let filled = fill(from, text, count)?;
+        if filled == count {
             break;
         }
-        let at = answer_ended(&text, map, to)?;
-        text = keep_rest(alloc, &text, at)?;
+        let at = answer_ended(&text[..filled], map, to)?;
+        count = keep_rest(text, at, filled);
     }
-    replay_last(&mut text, map, to)
+    replay_last(text, count, map, to)
 }
 
-fn main(rt: HostRuntime) -> io::Result<()> {
-    let alloc = rt.alloc();
+// What can be read is replayed, and what can be written of the answers is written: nothing else is said of what fails.
+fn main(rt: HostRuntime) {
+    let mut text: Text = [0; 1114112];
     let mut map: Map = [0; 1489000];
-    let mut to = BufWriter::new(alloc, io::writer(&rt))?;
-    replay(alloc, &mut rt.reader(), &mut map, &mut to)?;
-    to.flush()
+    let mut from = Ending { inner: rt.reader() };
+    let mut to = Lossy {
+        inner: io::writer(&rt),
+    };
+    let _ = replay(&mut from, &mut text, &mut map, &mut to);
 }

@@ -1,23 +1,21 @@
-use Rattle.std.proofs.Common.{◌≡◌, ℕ, List, [], ◌++◌, take, IfSome, ap, ◌∙◌}
-use Rattle.std.specs.Prelude.{None, Some}
-use Rattle.std.specs.declared.option.Option.{Option}
-use Rattle.std.specs.declared.io.traits.Take.{Take}
-use Rattle.std.specs.Option.{option_map}
-use Rattle.std.specs.Io.Take.{take_limit, take_inner, take_remaining}
-use Rattle.mapping.specs.Answers.{text_room}
+use Rattle.std.proofs.Common.{◌≡◌, ℕ, ◌+◌, ◌-◌, ◌≤◌, List, ◌++◌, rules, length, take, sym, ap, ◌∙◌, subst, le_refl, drop_at, length-take-le}
+use Rattle.std.proofs.lemmas.Slice.{take-put_mid_below}
+use Rattle.std.specs.Io.KnownBytes.{Consumes}
+use Rattle.std.proofs.KnownBytes.{Consumes-trans}
+use borrow.Rule.Slice.PartMut.{put_mid, post_of}
+use lib.Seq.{take-add, take-append-le}
 use Rattle.fmap.proofs.read_text.Goals as goal
 
--- known bytes up to a limit, put behind nothing
-from_front : (known : Option (List ℕ)) (n : ℕ) (old new : List ℕ) → n ≡ text_room → old ≡ []
-    → IfSome (option_map (take n) known) (λ xs. new ≡ old ++ xs) → IfSome known (λ bytes. new ≡ take text_room bytes)
-from_front None n old new l e h = tt
-from_front (Some xs) n old new l e h = h ∙ ap (λ front. front ++ take n xs) e ∙ ap (λ k. take k xs) l
+-- the front, and what was read behind it, of which n bytes count
+read_behind : (a k n : ℕ) (xs ys : List ℕ) → a ≤ length xs → n ≤ length ys → take a xs ++ take n ys ≡ take (a + n) (put_mid a k xs ys)
+read_behind a k n xs ys within fits =
+    let front = ap (λ l. l ++ take n ys) (sym (take-put_mid_below _ _ _ _ _ (le_refl a) within)) in
+    let part = drop_at (take a xs) (ys ++ post_of a k xs) a (length-take-le a xs within) in
+    let behind = sym (ap (take n) part ∙ take-append-le n ys (post_of a k xs) fits) in
+    front ∙ ap (λ l. take a (put_mid a k xs ys) ++ l) behind ∙ sym (take-add a n (put_mid a k xs ys))
 
-read_up_to : {R : Type 0} (remaining : R → Option (List ℕ)) (t : Take R) (from : R) (old new : List ℕ) → take_limit t ≡ text_room → take_inner t ≡ from → old ≡ []
-    → IfSome (take_remaining remaining t) (λ xs. new ≡ old ++ xs) → IfSome (remaining from) (λ bytes. new ≡ take text_room bytes)
-read_up_to remaining t from old new l i e h =
-    let known : IfSome (remaining (take_inner t)) (λ bytes. new ≡ take text_room bytes) = from_front (remaining (take_inner t)) (take_limit t) old new l e h in
-    rw i at known
-
-pub returns : goal.returns
-returns g c = read_up_to g.R.Read.remaining c.take.result c.args.from _ _ c.take.ensures.limit c.take.ensures.inner c.new-text.ensures.items c.in_ok-read_to_end.ensures.bytes
+pub loop-count-preserved : goal.loop-count-preserved
+loop-count-preserved g c =
+    let l = c.loop-count in
+    let read = read_behind l.count (length l.text - l.count) c.in-Ok.more l.text c.read.new.buf l.invariant.1 c.in-Ok.ensures.bound.0 in
+    (search rules, search rules, subst (Consumes _ _) read (Consumes-trans _ _ _ _ _ l.invariant.2 c.in-Ok.ensures.bytes.0))
