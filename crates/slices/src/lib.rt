@@ -16,19 +16,34 @@ use tables::{Map, Row, Set, Ways};
 
 pub mod basic_blocks;
 
+/// How many basic blocks a function may have.
+pub const BLOCKS: usize = 256;
+
+/// How many ways on.
+pub const BRANCHES: usize = 1024;
+
+/// How many functions it may refer to.
+pub const REFERENCES: usize = 256;
+
+/// How many jump tables.
+pub const TABLES: usize = 256;
+
+/// How many possible blocks.
+pub const POSSIBLE: usize = 128;
+
 /// What is known of a function.
 #[derive(Drop)]
 pub struct FunctionSlices {
     /// The end of each block by its start, 0 while it is open.
-    pub blocks: Map<256>,
-    pub branches: Ways<1024>,
-    pub function_references: Set<256>,
+    pub blocks: Map<BLOCKS>,
+    pub branches: Ways<BRANCHES>,
+    pub function_references: Set<REFERENCES>,
     /// The size of each jump table by its address.
-    pub jump_table_references: Map<256>,
+    pub jump_table_references: Map<TABLES>,
     pub prologue: Option<u64>,
     pub epilogue: Option<u64>,
     /// Either blocks or tail calls.
-    pub possible_blocks: Set<128>,
+    pub possible_blocks: Set<POSSIBLE>,
     pub has_conditional_blr: bool,
     pub has_rfi: bool,
     pub finalized: bool,
