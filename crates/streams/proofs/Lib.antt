@@ -1,0 +1,2 @@
+-- Lemmas on parts of lists.
+pub mod Parts

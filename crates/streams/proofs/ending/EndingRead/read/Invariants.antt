@@ -1,0 +1,11 @@
+-- Each turn reads some bytes, and what the buffer begins with is what the inner reader gave.
+use Rattle.std.proofs.Common.{length, ◌-◌, ◌≡◌, ◌≤◌, take}
+use Rattle.std.specs.Io.KnownBytes.{Consumes}
+use Rattle.streams.proofs.ending.EndingRead.read.Given as goal
+
+abbrev pub invariant-loop-count : goal.invariant-loop-count
+invariant-loop-count g l = (length l.buf ≡ length l.initial.buf) × (l.count ≤ length l.buf)
+    × Consumes (g.R.Read.remaining l.initial.self.inner) (g.R.Read.remaining l.self.inner) (take l.count l.buf)
+
+abbrev pub decreases-loop-count : goal.decreases-loop-count
+decreases-loop-count g l = length l.initial.buf - l.count
