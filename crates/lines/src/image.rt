@@ -1,5 +1,6 @@
 //! The lists of an image, and the lines that they are read from.
-ghost use Rattle.std.specs.Prelude.{◌≡◌, ◌≤◌, ◌+◌, ◌*◌, vec_len, IfOk, OnErr, OnOk};
+ghost use Rattle.std.specs.Prelude.{◌≡◌, ◌≤◌, ◌<◌, ◌+◌, ◌-◌, ◌*◌, ◌↔◌, ◌∷◌, ◌++◌, [], true, false, cond, length, take, drop, vec_len, None, Some, Ok, Err, IfOk, OnErr, OnOk};
+ghost use Rattle.std.specs.List.{repeat};
 
 use crate::digits::{Number, value_of};
 use std::alloc::{AllocError, AllocFailed, Global};
@@ -69,6 +70,21 @@ enum List {
     Entry,
     Known,
     Walks,
+}
+
+impl Image {
+    fn list_mut(&mut self, list: List) -> &mut Vec<u32> {
+        match list {
+            List::Sections => &mut self.sections,
+            List::Outcomes => &mut self.outcomes,
+            List::Functions => &mut self.functions,
+            List::Objects => &mut self.objects,
+            List::Skips => &mut self.skips,
+            List::Entry => &mut self.entry,
+            List::Known => &mut self.known,
+            List::Walks => &mut self.walks,
+        }
+    }
 }
 
 /// What a line holds, by its first letter.
@@ -145,7 +161,11 @@ pub struct Reading {
 }
 
 impl Reading {
-    pub fn new(alloc: Global) -> Self {
+    pub fn new(alloc: Global) -> Self
+        ensures closed { result.is_open ≡ false }
+        ensures begun { result.place ≡ Place.Start }
+        ensures well { (result.is_malformed ≡ false) × (result.is_too_long ≡ false) }
+    {
         Reading {
             alloc,
             image: Image {
@@ -174,17 +194,25 @@ impl Reading {
     }
 
     /// Whether anything of the image was read.
-    pub fn is_open(&self) -> bool {
+    pub fn is_open(&self) -> bool
+        ensures { result ≡ self.now.is_open }
+    {
         self.is_open
     }
 
     /// Whether the line `=` was read.
-    pub fn is_ended(&self) -> bool {
+    pub fn is_ended(&self) -> bool
+        ensures { (result ≡ true) ↔ (self.now.place ≡ Place.Ended) }
+    {
         self.place == Place::Ended
     }
 
     /// The image. A line that is not of the form comes before too many numbers or bytes.
-    pub fn image(self) -> Result<Image, Unread> {
+    pub fn image(self) -> Result<Image, Unread>
+        ensures malformed { self.is_malformed ≡ true → result ≡ Err Unread.Malformed }
+        ensures too_long { self.is_malformed ≡ false → self.is_too_long ≡ true → result ≡ Err Unread.TooLong }
+        ensures whole { self.is_malformed ≡ false → self.is_too_long ≡ false → result ≡ Ok self.image }
+    {
         if self.is_malformed {
             return Err(Unread::Malformed);
         }
@@ -194,23 +222,12 @@ impl Reading {
         Ok(self.image)
     }
 
-    fn list_mut(&mut self, list: List) -> &mut Vec<u32> {
-        match list {
-            List::Sections => &mut self.image.sections,
-            List::Outcomes => &mut self.image.outcomes,
-            List::Functions => &mut self.image.functions,
-            List::Objects => &mut self.image.objects,
-            List::Skips => &mut self.image.skips,
-            List::Entry => &mut self.image.entry,
-            List::Known => &mut self.image.known,
-            List::Walks => &mut self.image.walks,
-        }
-    }
-
     // ---- a line of numbers
 
     /// A line of a list begins. One that does not stand with the list's others is refused.
-    fn begin_numbers(&mut self, list: List) -> Result<Place, Unread> {
+    fn begin_numbers(&mut self, list: List) -> Result<Place, Unread>
+        ensures { OnOk result (self.new.list ≡ Some list) }
+    {
         if self.list != Some(list) {
             if self.begun.contains(&list) {
                 return Err(Unread::Malformed);
@@ -219,18 +236,21 @@ impl Reading {
             self.from = self.numbers;
         }
         self.before = self.numbers;
-        self.start = self.list_mut(list).len();
+        self.start = self.image.list_mut(list).len();
         Ok(Place::Numbers(list))
     }
 
     /// The number that was read, if there is one, is put into its list.
-    fn put_number(&mut self, list: List) -> Result<(), Unread> {
+    fn put_number(&mut self, list: List) -> Result<(), Unread>
+        ensures few { self.old.numbers ≤ 400000 → self.new.numbers ≤ 400000 }
+        ensures full { OnOk result (0 < self.old.number.digits → 400000 ≤ self.old.numbers → self.new.is_too_long ≡ true) }
+    {
         let number = self.number;
         if number.digits > 0 {
             self.number = Number::new();
             if self.numbers < MOST_NUMBERS {
                 self.numbers += 1;
-                self.list_mut(list).push(number.value)?;
+                self.image.list_mut(list).push(number.value)?;
             } else {
                 self.is_too_long = true;
             }
@@ -239,7 +259,9 @@ impl Reading {
     }
 
     /// A line's numbers come as often as its count says. Where there is no room for them none is put.
-    fn repeat_numbers(&mut self, list: List, times: u32) -> Result<(), Unread> {
+    fn repeat_numbers(&mut self, list: List, times: u32) -> Result<(), Unread>
+        ensures { OnOk result (400000 < self.new.numbers → self.new.is_too_long ≡ true) }
+    {
         let count = self.numbers.saturating_sub(self.before);
         let numbers = if self.numbers <= MOST_NUMBERS {
             self.before
@@ -248,7 +270,9 @@ impl Reading {
             TOO_MANY
         };
         if numbers <= MOST_NUMBERS {
-            repeat(self.alloc, self.start, times, self.list_mut(list))?;
+            let (alloc, start) = (self.alloc, self.start);
+            let items = self.image.list_mut(list);
+            repeat_from(alloc, start.min(items.len()), times, items)?;
         } else {
             self.is_too_long = true;
         }
@@ -296,13 +320,20 @@ impl Reading {
 
     // ---- a line of bytes
 
-    fn begin_bytes(&mut self) -> Place {
+    fn begin_bytes(&mut self) -> Place
+        ensures { self.new.list ≡ None }
+    {
         self.list = None;
         self.start = self.image.bytes.len();
         Place::Bytes
     }
 
-    fn put_byte(&mut self, byte: u8) -> Result<(), Unread> {
+    fn put_byte(&mut self, byte: u8) -> Result<(), Unread>
+        ensures few { vec_len self.old.image.bytes ≤ 300000 → vec_len self.new.image.bytes ≤ 300000 }
+        ensures kept { OnOk result (vec_len self.old.image.bytes < 300000
+            → self.new.image.bytes.items ≡ self.old.image.bytes.items ++ byte ∷ []) }
+        ensures full { OnOk result (300000 ≤ vec_len self.old.image.bytes → self.new.is_too_long ≡ true) }
+    {
         if self.image.bytes.len() < MOST_BYTES {
             self.image.bytes.push(byte)?;
         } else {
@@ -311,14 +342,13 @@ impl Reading {
         Ok(())
     }
 
-    fn repeat_bytes(&mut self, times: u32) -> Result<(), Unread> {
-        let count = self.image.bytes.len().saturating_sub(self.start);
-        if self
-            .start
-            .saturating_add(count.saturating_mul(times as usize))
-            <= MOST_BYTES
-        {
-            repeat(self.alloc, self.start, times, &mut self.image.bytes)?;
+    fn repeat_bytes(&mut self, times: u32) -> Result<(), Unread>
+        ensures few { vec_len self.old.image.bytes ≤ 300000 → vec_len self.new.image.bytes ≤ 300000 }
+    {
+        let start = self.start.min(self.image.bytes.len());
+        let count = self.image.bytes.len() - start;
+        if start.saturating_add(count.saturating_mul(times as usize)) <= MOST_BYTES {
+            repeat_from(self.alloc, start, times, &mut self.image.bytes)?;
         } else {
             self.is_too_long = true;
         }
@@ -360,14 +390,18 @@ impl Reading {
 
     // ---- any line
 
-    fn take_digit(&mut self, byte: u8) -> Result<(), Unread> {
+    fn take_digit(&mut self, byte: u8) -> Result<(), Unread>
+        ensures { OnOk result ((self.new.number.digits ≡ self.old.number.digits + 1) × (self.new.number.digits ≤ 8)) }
+    {
         let digit = value_of(byte).ok_or(Unread::Malformed)?;
         self.number = self.number.and(digit).ok_or(Unread::Malformed)?;
         Ok(())
     }
 
     /// The count that was read.
-    fn count(&self) -> Result<u32, Unread> {
+    fn count(&self) -> Result<u32, Unread>
+        ensures { IfOk result (λ times. (0 < self.now.number.digits) × (times ≡ self.now.number.value)) }
+    {
         if self.number.digits == 0 {
             return Err(Unread::Malformed);
         }
@@ -418,7 +452,10 @@ impl Reading {
     }
 
     /// Bytes of the input, up to the image's end: how many.
-    pub fn take_all(&mut self, bytes: &[u8]) -> Result<usize, Unread> {
+    pub fn take_all(&mut self, bytes: &[u8]) -> Result<usize, Unread>
+        ensures within { IfOk result (λ count. count ≤ length bytes.now) }
+        ensures all { IfOk result (λ count. count < length bytes.now → self.new.place ≡ Place.Ended) }
+    {
         for (index, byte) in bytes.iter().enumerate() {
             self.take(*byte)?;
             if self.is_ended() {
@@ -429,26 +466,52 @@ impl Reading {
     }
 }
 
-/// What stands from a place on in a list comes as often as is asked for: once, twice, four times and so on for each bit of the number.
-fn repeat<T: Copy + Drop>(
+/// What stands from a place on in a list comes as often as is asked for.
+fn repeat_from<T: Copy + Drop>(
     alloc: Global,
     start: usize,
     times: u32,
     items: &mut Vec<T>,
-) -> Result<(), AllocError> {
-    let mut lines = Vec::from_slice(alloc, &items[start.min(items.len())..])?;
+) -> Result<(), AllocError>
+    requires { start ≤ vec_len items.old }
+    ensures few { OnErr result (vec_len items.new ≤ vec_len items.old) }
+    ensures len { OnOk result (vec_len items.new ≡ start + (vec_len items.old - start) * times) }
+    ensures items { OnOk result (items.new.items ≡ take start items.old.items ++ repeat times (drop start items.old.items)) }
+{
+    let more = repeated(alloc, &items[start..], times)?;
     items.truncate(start);
+    items.extend_from_slice(&more)
+}
+
+/// Elements as often as is asked for: once, twice, four times and so on for each bit of the number.
+fn repeated<T: Copy + Drop>(alloc: Global, items: &[T], times: u32) -> Result<Vec<T>, AllocError>
+    ensures items { IfOk result (λ v. v.items ≡ repeat times items.now) }
+    ensures len { IfOk result (λ v. vec_len v ≡ length items.now * times) }
+{
+    let mut made = Vec::new(alloc);
+    let mut line = Vec::from_slice(alloc, items)?;
     let mut left = times;
-    for _ in 0..u32::BITS {
+    while left > 0 {
         if left % 2 == 1 {
-            items.extend_from_slice(&lines)?;
+            made.extend_from_slice(&line)?;
         }
         left /= 2;
-        if left == 0 {
-            break;
-        }
-        let more = Vec::from_slice(alloc, &lines)?;
-        lines.extend_from_slice(&more)?;
+        double(alloc, left > 0, &mut line)?;
+    }
+    Ok(made)
+}
+
+/// Twice the elements, if that is asked for.
+fn double<T: Copy + Drop>(
+    alloc: Global,
+    is_asked: bool,
+    items: &mut Vec<T>,
+) -> Result<(), AllocError>
+    ensures { OnOk result (items.new.items ≡ items.old.items ++ cond is_asked items.old.items []) }
+{
+    if is_asked {
+        let more = Vec::from_slice(alloc, items)?;
+        items.extend_from_slice(&more)?;
     }
     Ok(())
 }
