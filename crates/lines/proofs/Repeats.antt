@@ -1,5 +1,5 @@
 -- What comes a number of times is twice as much half as often.
-use Rattle.std.proofs.Common.{◌≡◌, ℕ, suc, zero, ◌+◌, ◌*◌, ◌/◌, ◌%◌, length, List, [], ◌++◌, true, rules, cond, nat_lt, refl, sym, ap, ◌∙◌, arith, append_assoc}
+use Rattle.std.proofs.Common.{◌≡◌, ℕ, suc, zero, ◌+◌, ◌*◌, ◌/◌, ◌%◌, ◌-◌, ◌≤◌, length, take, drop, length-take-le, length-drop, List, [], ◌++◌, true, rules, cond, nat_lt, refl, sym, ap, ◌∙◌, arith, append_assoc}
 use Rattle.std.proofs.lemmas.List.{length-append}
 use Rattle.std.specs.List.{repeat}
 
@@ -29,8 +29,14 @@ half-even n items xs h =
     let e : n / 2 + n / 2 ≡ n = omega arith in
     ap (λ l. items ++ l) (doubled (n / 2) xs) ∙ ap (λ k. items ++ repeat k xs) e
 
-pub length-repeat : {A : Type 0} (n : ℕ) (xs : List A) → length (repeat n xs) ≡ length xs * n
+length-repeat : {A : Type 0} (n : ℕ) (xs : List A) → length (repeat n xs) ≡ length xs * n
 length-repeat zero xs = omega arith
 length-repeat (suc n) xs =
     let e : length xs + length xs * n ≡ length xs * suc n = grind arith in
     length-append xs (repeat n xs) ∙ ap (λ k. length xs + k) (length-repeat n xs) ∙ e
+
+pub length-repeat_from : {A : Type 0} (from n : ℕ) (xs : List A) → from ≤ length xs
+    → length (take from xs ++ repeat n (drop from xs)) ≡ from + (length xs - from) * n
+length-repeat_from from n xs h =
+    length-append (take from xs) (repeat n (drop from xs)) ∙ ap (λ k. k + length (repeat n (drop from xs))) (length-take-le from xs h)
+    ∙ ap (λ k. from + k) (length-repeat n (drop from xs) ∙ ap (λ k. k * n) (length-drop from xs))

@@ -1,5 +1,5 @@
 //! The lists of an image, and the lines that they are read from.
-ghost use Rattle.std.specs.Prelude.{◌≡◌, ◌≤◌, ◌<◌, ◌+◌, ◌-◌, ◌*◌, ◌↔◌, ◌∷◌, ◌++◌, [], true, false, cond, length, take, drop, vec_len, None, Some, Ok, Err, IfOk, OnErr, OnOk};
+ghost use Rattle.std.specs.Prelude.{◌≡◌, ◌≤◌, ◌<◌, ◌+◌, ◌-◌, ◌*◌, ◌↔◌, ◌∷◌, ◌++◌, [], true, false, cond, length, take, drop, vec_len, None, Some, Ok, Err, IfOk, OnOk};
 ghost use Rattle.std.specs.List.{repeat};
 
 use crate::digits::{Number, value_of};
@@ -343,7 +343,7 @@ impl Reading {
     }
 
     fn repeat_bytes(&mut self, times: u32) -> Result<(), Unread>
-        ensures few { vec_len self.old.image.bytes ≤ 300000 → vec_len self.new.image.bytes ≤ 300000 }
+        ensures few { OnOk result (vec_len self.old.image.bytes ≤ 300000 → vec_len self.new.image.bytes ≤ 300000) }
     {
         let start = self.start.min(self.image.bytes.len());
         let count = self.image.bytes.len() - start;
@@ -466,7 +466,7 @@ impl Reading {
     }
 }
 
-/// What stands from a place on in a list comes as often as is asked for.
+/// What stands from a place on in a list comes as often as is asked for: once, twice, four times and so on for each bit of the number.
 fn repeat_from<T: Copy + Drop>(
     alloc: Global,
     start: usize,
@@ -474,31 +474,20 @@ fn repeat_from<T: Copy + Drop>(
     items: &mut Vec<T>,
 ) -> Result<(), AllocError>
     requires { start ≤ vec_len items.old }
-    ensures few { OnErr result (vec_len items.new ≤ vec_len items.old) }
     ensures len { OnOk result (vec_len items.new ≡ start + (vec_len items.old - start) * times) }
     ensures items { OnOk result (items.new.items ≡ take start items.old.items ++ repeat times (drop start items.old.items)) }
 {
-    let more = repeated(alloc, &items[start..], times)?;
+    let mut line = Vec::from_slice(alloc, &items[start..])?;
     items.truncate(start);
-    items.extend_from_slice(&more)
-}
-
-/// Elements as often as is asked for: once, twice, four times and so on for each bit of the number.
-fn repeated<T: Copy + Drop>(alloc: Global, items: &[T], times: u32) -> Result<Vec<T>, AllocError>
-    ensures items { IfOk result (λ v. v.items ≡ repeat times items.now) }
-    ensures len { IfOk result (λ v. vec_len v ≡ length items.now * times) }
-{
-    let mut made = Vec::new(alloc);
-    let mut line = Vec::from_slice(alloc, items)?;
     let mut left = times;
     while left > 0 {
         if left % 2 == 1 {
-            made.extend_from_slice(&line)?;
+            items.extend_from_slice(&line)?;
         }
         left /= 2;
         double(alloc, left > 0, &mut line)?;
     }
-    Ok(made)
+    Ok(())
 }
 
 /// Twice the elements, if that is asked for.
