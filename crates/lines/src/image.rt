@@ -1,5 +1,6 @@
 //! The lists of an image, and the lines that they are read from.
-ghost use Rattle.std.specs.Prelude.{◌≡◌, ◌≤◌, ◌<◌, ◌+◌, ◌-◌, ◌*◌, ◌↔◌, ◌∷◌, ◌++◌, [], true, false, cond, length, take, drop, vec_len, None, Some, Ok, Err, IfOk, OnOk};
+ghost use Rattle.std.specs.Prelude.{◌≡◌, ◌≤◌, ◌<◌, ◌+◌, ◌-◌, ◌*◌, ◌↔◌, ◌∷◌, ◌++◌, [], true, false, cond, length, take, drop};
+ghost use Rattle.std.specs.Prelude.{vec_len, None, Some, Ok, Err, IfOk, OnOk};
 ghost use Rattle.std.specs.List.{repeat};
 
 use crate::digits::{Number, value_of};
