@@ -1,5 +1,5 @@
 //! Hexadecimal digits, in small letters.
-ghost use Rattle.std.specs.Prelude.{◌≡◌, ◌≤◌, ◌<◌, length, IfSome};
+ghost use Rattle.std.specs.Prelude.{◌≡◌, ◌≤◌, ◌<◌, ◌+◌, ◌*◌, ◌%◌, IfSome};
 
 /// The value of a digit.
 pub fn value_of(digit: u8) -> Option<u8>
@@ -12,22 +12,36 @@ pub fn value_of(digit: u8) -> Option<u8>
     }
 }
 
-/// A number of one to eight digits.
-pub fn number_of(digits: &str) -> Option<u32>
-    ensures { IfSome result (λ _. length digits.now ≤ 8) }
-{
-    if digits.len() > 8 || !digits.bytes().all(|digit| value_of(digit).is_some()) {
-        return None;
-    }
-    u32::from_str_radix(digits, 16).ok()
+/// A number that is read digit by digit, of up to eight; 0 while it has none.
+#[derive(Clone, Copy, Debug, PartialEq, Eq)]
+pub struct Number {
+    pub value: u32,
+    pub digits: u32,
 }
 
-/// A byte of two digits.
-pub fn byte_of(digits: &[u8]) -> Option<u8>
-    ensures { IfSome result (λ _. length digits.now ≡ 2) }
-{
-    match digits {
-        [high, low] => Some(value_of(*high)? * 16 + value_of(*low)?),
-        _ => None,
+impl Number {
+    pub fn new() -> Self
+        ensures { result.digits ≡ 0 }
+    {
+        Number {
+            value: 0,
+            digits: 0,
+        }
+    }
+
+    /// One more digit. A number of eight takes none.
+    pub fn and(self, digit: u8) -> Option<Number>
+        ensures few { IfSome result (λ number. number.digits ≤ 8) }
+        ensures more { IfSome result (λ number. number.digits ≡ self.digits + 1) }
+        ensures value { IfSome result (λ number. number.value ≡ self.value % 0x1000_0000 * 16 + digit % 16) }
+    {
+        if self.digits < 8 {
+            Some(Number {
+                value: self.value % 0x1000_0000 * 16 + u32::from(digit % 16),
+                digits: self.digits + 1,
+            })
+        } else {
+            None
+        }
     }
 }

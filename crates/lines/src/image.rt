@@ -1,7 +1,9 @@
 //! The lists of an image, and the lines that they are read from.
-ghost use Rattle.std.specs.Prelude.{◌≡◌, ◌≤◌, vec_len, IfOk, OnErr, OnOk};
+ghost use Rattle.std.specs.Prelude.{◌≡◌, ◌≤◌, ◌<◌, ◌+◌, ◌-◌, ◌*◌, ◌↔◌, ◌∷◌, ◌++◌, [], true, false, cond, length, take, drop};
+ghost use Rattle.std.specs.Prelude.{vec_len, None, Some, Ok, Err, IfOk, OnOk};
+ghost use Rattle.std.specs.List.{repeat};
 
-use crate::digits::{byte_of, number_of};
+use crate::digits::{Number, value_of};
 use std::alloc::{AllocError, AllocFailed, Global};
 use std::fmt;
 
@@ -10,6 +12,9 @@ const MOST_NUMBERS: usize = 400000;
 
 /// Room for a code section of 65,537 words, and for tables.
 const MOST_BYTES: usize = 300000;
+
+/// How many numbers there are where that is too many to tell.
+const TOO_MANY: usize = 0x100_0000_0000;
 
 /// The lists that are lent for an image.
 #[derive(Debug, Drop)]
@@ -68,48 +73,102 @@ enum List {
     Walks,
 }
 
+impl Image {
+    fn list_mut(&mut self, list: List) -> &mut Vec<u32> {
+        match list {
+            List::Sections => &mut self.sections,
+            List::Outcomes => &mut self.outcomes,
+            List::Functions => &mut self.functions,
+            List::Objects => &mut self.objects,
+            List::Skips => &mut self.skips,
+            List::Entry => &mut self.entry,
+            List::Known => &mut self.known,
+            List::Walks => &mut self.walks,
+        }
+    }
+}
+
 /// What a line holds, by its first letter.
 #[derive(Clone, Copy, Debug, PartialEq, Eq)]
 enum Kind {
     Remark,
     Numbers(List),
     Bytes,
+    End,
 }
 
-impl TryFrom<char> for Kind {
+impl TryFrom<u8> for Kind {
     type Error = Unread;
 
-    fn try_from(letter: char) -> Result<Self, Unread> {
+    fn try_from(letter: u8) -> Result<Self, Unread> {
         match letter {
-            '#' => Ok(Kind::Remark),
-            's' => Ok(Kind::Numbers(List::Sections)),
-            'o' => Ok(Kind::Numbers(List::Outcomes)),
-            'f' => Ok(Kind::Numbers(List::Functions)),
-            'j' => Ok(Kind::Numbers(List::Objects)),
-            'k' => Ok(Kind::Numbers(List::Skips)),
-            'e' => Ok(Kind::Numbers(List::Entry)),
-            'n' => Ok(Kind::Numbers(List::Known)),
-            'w' => Ok(Kind::Numbers(List::Walks)),
-            'b' => Ok(Kind::Bytes),
+            b'#' => Ok(Kind::Remark),
+            b's' => Ok(Kind::Numbers(List::Sections)),
+            b'o' => Ok(Kind::Numbers(List::Outcomes)),
+            b'f' => Ok(Kind::Numbers(List::Functions)),
+            b'j' => Ok(Kind::Numbers(List::Objects)),
+            b'k' => Ok(Kind::Numbers(List::Skips)),
+            b'e' => Ok(Kind::Numbers(List::Entry)),
+            b'n' => Ok(Kind::Numbers(List::Known)),
+            b'w' => Ok(Kind::Numbers(List::Walks)),
+            b'b' => Ok(Kind::Bytes),
+            b'=' => Ok(Kind::End),
             _ => Err(Unread::Malformed),
         }
     }
 }
 
-/// An image that is read, line by line.
+/// Where the next byte stands.
+#[derive(Clone, Copy, Debug, PartialEq, Eq)]
+enum Place {
+    /// at a line's start
+    Start,
+    /// among the numbers of a line
+    Numbers(List),
+    /// in the count behind them
+    NumbersCount(List),
+    Bytes,
+    BytesCount,
+    Remark,
+    /// behind `=`
+    End,
+    /// in a line that is not of the form
+    Wrong,
+    /// behind the image
+    Ended,
+}
+
+/// An image that is read, byte by byte.
 #[derive(Debug, Drop)]
-struct Reading {
+pub struct Reading {
+    alloc: Global,
     image: Image,
-    /// the list of the last line of numbers
-    list: List,
-    /// how many numbers there are in all
+    place: Place,
+    /// the number or count, or half of the byte, that is read
+    number: Number,
+    /// the list of the last line, if that is one of numbers; how many numbers there were before the list's first line
+    list: Option<List>,
+    from: usize,
+    /// the lists that have numbers
+    begun: Vec<List>,
+    /// how many numbers there are in all; in a list that is too long they are counted on, but not kept
     numbers: usize,
+    /// how many numbers, or bytes, there were before the line, and how long its list was
+    before: usize,
+    start: usize,
+    is_open: bool,
+    is_malformed: bool,
     is_too_long: bool,
 }
 
 impl Reading {
-    fn new(alloc: Global) -> Self {
+    pub fn new(alloc: Global) -> Self
+        ensures closed { result.is_open ≡ false }
+        ensures begun { result.place ≡ Place.Start }
+        ensures well { (result.is_malformed ≡ false) × (result.is_too_long ≡ false) }
+    {
         Reading {
+            alloc,
             image: Image {
                 sections: Vec::new(alloc),
                 bytes: Vec::new(alloc),
@@ -121,114 +180,328 @@ impl Reading {
                 known: Vec::new(alloc),
                 walks: Vec::new(alloc),
             },
-            list: List::Sections,
+            place: Place::Start,
+            number: Number::new(),
+            list: None,
+            from: 0,
+            begun: Vec::new(alloc),
             numbers: 0,
+            before: 0,
+            start: 0,
+            is_open: false,
+            is_malformed: false,
             is_too_long: false,
         }
     }
 
-    fn list_mut(&mut self, list: List) -> &mut Vec<u32> {
-        match list {
-            List::Sections => &mut self.image.sections,
-            List::Outcomes => &mut self.image.outcomes,
-            List::Functions => &mut self.image.functions,
-            List::Objects => &mut self.image.objects,
-            List::Skips => &mut self.image.skips,
-            List::Entry => &mut self.image.entry,
-            List::Known => &mut self.image.known,
-            List::Walks => &mut self.image.walks,
-        }
+    /// Whether anything of the image was read.
+    pub fn is_open(&self) -> bool
+        ensures { result ≡ self.now.is_open }
+    {
+        self.is_open
     }
 
-    /// A line of numbers. One that does not stand with the list's others is refused.
-    fn take_numbers(&mut self, alloc: Global, list: List, text: &str) -> Result<(), Unread> {
-        if list != self.list && !self.list_mut(list).is_empty() {
+    /// Whether the line `=` was read.
+    pub fn is_ended(&self) -> bool
+        ensures { (result ≡ true) ↔ (self.now.place ≡ Place.Ended) }
+    {
+        self.place == Place::Ended
+    }
+
+    /// The image. A line that is not of the form comes before too many numbers or bytes.
+    pub fn image(self) -> Result<Image, Unread>
+        ensures malformed { self.is_malformed ≡ true → result ≡ Err Unread.Malformed }
+        ensures too_long { self.is_malformed ≡ false → self.is_too_long ≡ true → result ≡ Err Unread.TooLong }
+        ensures whole { self.is_malformed ≡ false → self.is_too_long ≡ false → result ≡ Ok self.image }
+    {
+        if self.is_malformed {
             return Err(Unread::Malformed);
         }
-        self.list = list;
-        let (text, times) = counted(text)?;
-        let mut numbers = Vec::new(alloc);
-        for digits in text.split(' ').filter(|digits| !digits.is_empty()) {
-            numbers.push(number_of(digits).ok_or(Unread::Malformed)?)?;
+        if self.is_too_long {
+            return Err(Unread::TooLong);
         }
-        let room = MOST_NUMBERS.saturating_sub(self.numbers);
-        match repeated(alloc, &numbers, times, room)? {
-            Some(numbers) => {
-                self.numbers = self.numbers.saturating_add(numbers.len());
-                self.list_mut(list).extend_from_slice(&numbers)?;
+        Ok(self.image)
+    }
+
+    // ---- a line of numbers
+
+    /// A line of a list begins. One that does not stand with the list's others is refused.
+    fn begin_numbers(&mut self, list: List) -> Result<Place, Unread>
+        ensures { OnOk result (self.new.list ≡ Some list) }
+    {
+        if self.list != Some(list) {
+            if self.begun.contains(&list) {
+                return Err(Unread::Malformed);
             }
-            None => self.is_too_long = true,
+            self.list = Some(list);
+            self.from = self.numbers;
+        }
+        self.before = self.numbers;
+        self.start = self.image.list_mut(list).len();
+        Ok(Place::Numbers(list))
+    }
+
+    /// The number that was read, if there is one, is put into its list.
+    fn put_number(&mut self, list: List) -> Result<(), Unread>
+        ensures few { self.old.numbers ≤ 400000 → self.new.numbers ≤ 400000 }
+        ensures full { OnOk result (0 < self.old.number.digits → 400000 ≤ self.old.numbers → self.new.is_too_long ≡ true) }
+    {
+        let number = self.number;
+        if number.digits > 0 {
+            self.number = Number::new();
+            if self.numbers < MOST_NUMBERS {
+                self.numbers += 1;
+                self.image.list_mut(list).push(number.value)?;
+            } else {
+                self.is_too_long = true;
+            }
         }
         Ok(())
     }
 
-    fn take_bytes(&mut self, alloc: Global, text: &str) -> Result<(), Unread> {
-        let (text, times) = counted(text)?;
-        let mut bytes = Vec::new(alloc);
-        for digits in text.split(' ') {
-            for pair in digits.as_bytes().chunks(2) {
-                bytes.push(byte_of(pair).ok_or(Unread::Malformed)?)?;
+    /// A line's numbers come as often as its count says. Where there is no room for them none is put.
+    fn repeat_numbers(&mut self, list: List, times: u32) -> Result<(), Unread>
+        ensures { OnOk result (400000 < self.new.numbers → self.new.is_too_long ≡ true) }
+    {
+        let count = self.numbers.saturating_sub(self.before);
+        let numbers = if self.numbers <= MOST_NUMBERS {
+            self.before
+                .saturating_add(count.saturating_mul(times as usize))
+        } else {
+            TOO_MANY
+        };
+        if numbers <= MOST_NUMBERS {
+            let (alloc, start) = (self.alloc, self.start);
+            let items = self.image.list_mut(list);
+            repeat_from(alloc, start.min(items.len()), times, items)?;
+        } else {
+            self.is_too_long = true;
+        }
+        self.numbers = numbers;
+        Ok(())
+    }
+
+    fn end_numbers(&mut self, list: List) -> Result<Place, Unread> {
+        if self.from < self.numbers && !self.begun.contains(&list) {
+            self.begun.push(list)?;
+        }
+        Ok(Place::Start)
+    }
+
+    fn take_in_numbers(&mut self, list: List, byte: u8) -> Result<Place, Unread> {
+        match byte {
+            b' ' => {
+                self.put_number(list)?;
+                Ok(Place::Numbers(list))
+            }
+            b'*' => {
+                self.put_number(list)?;
+                Ok(Place::NumbersCount(list))
+            }
+            b'\n' => {
+                self.put_number(list)?;
+                self.end_numbers(list)
+            }
+            digit => {
+                self.take_digit(digit)?;
+                Ok(Place::Numbers(list))
             }
         }
-        let room = MOST_BYTES.saturating_sub(self.image.bytes.len());
-        match repeated(alloc, &bytes, times, room)? {
-            Some(bytes) => self.image.bytes.extend_from_slice(&bytes)?,
-            None => self.is_too_long = true,
+    }
+
+    fn take_in_numbers_count(&mut self, list: List, byte: u8) -> Result<Place, Unread> {
+        if byte == b'\n' {
+            let times = self.count()?;
+            self.repeat_numbers(list, times)?;
+            return self.end_numbers(list);
+        }
+        self.take_digit(byte)?;
+        Ok(Place::NumbersCount(list))
+    }
+
+    // ---- a line of bytes
+
+    fn begin_bytes(&mut self) -> Place
+        ensures { self.new.list ≡ None }
+    {
+        self.list = None;
+        self.start = self.image.bytes.len();
+        Place::Bytes
+    }
+
+    fn put_byte(&mut self, byte: u8) -> Result<(), Unread>
+        ensures few { vec_len self.old.image.bytes ≤ 300000 → vec_len self.new.image.bytes ≤ 300000 }
+        ensures kept { OnOk result (vec_len self.old.image.bytes < 300000
+            → self.new.image.bytes.items ≡ self.old.image.bytes.items ++ byte ∷ []) }
+        ensures full { OnOk result (300000 ≤ vec_len self.old.image.bytes → self.new.is_too_long ≡ true) }
+    {
+        if self.image.bytes.len() < MOST_BYTES {
+            self.image.bytes.push(byte)?;
+        } else {
+            self.is_too_long = true;
         }
         Ok(())
     }
 
-    fn take_line(&mut self, alloc: Global, line: &str) -> Result<(), Unread> {
-        let mut letters = line.chars();
-        let letter = letters.next().ok_or(Unread::Malformed)?;
+    fn repeat_bytes(&mut self, times: u32) -> Result<(), Unread>
+        ensures few { OnOk result (vec_len self.old.image.bytes ≤ 300000 → vec_len self.new.image.bytes ≤ 300000) }
+    {
+        let start = self.start.min(self.image.bytes.len());
+        let count = self.image.bytes.len() - start;
+        if start.saturating_add(count.saturating_mul(times as usize)) <= MOST_BYTES {
+            repeat_from(self.alloc, start, times, &mut self.image.bytes)?;
+        } else {
+            self.is_too_long = true;
+        }
+        Ok(())
+    }
+
+    fn take_in_bytes(&mut self, byte: u8) -> Result<Place, Unread> {
+        if let Some(digit) = value_of(byte) {
+            if self.number.digits == 0 {
+                self.take_digit(byte)?;
+            } else {
+                let high = (self.number.value % 16) as u8;
+                self.number = Number::new();
+                self.put_byte(high * 16 + digit)?;
+            }
+            return Ok(Place::Bytes);
+        }
+        // half a byte is none
+        if self.number.digits > 0 {
+            return Err(Unread::Malformed);
+        }
+        match byte {
+            b' ' => Ok(Place::Bytes),
+            b'*' => Ok(Place::BytesCount),
+            b'\n' => Ok(Place::Start),
+            _ => Err(Unread::Malformed),
+        }
+    }
+
+    fn take_in_bytes_count(&mut self, byte: u8) -> Result<Place, Unread> {
+        if byte == b'\n' {
+            let times = self.count()?;
+            self.repeat_bytes(times)?;
+            return Ok(Place::Start);
+        }
+        self.take_digit(byte)?;
+        Ok(Place::BytesCount)
+    }
+
+    // ---- any line
+
+    fn take_digit(&mut self, byte: u8) -> Result<(), Unread>
+        ensures { OnOk result ((self.new.number.digits ≡ self.old.number.digits + 1) × (self.new.number.digits ≤ 8)) }
+    {
+        let digit = value_of(byte).ok_or(Unread::Malformed)?;
+        self.number = self.number.and(digit).ok_or(Unread::Malformed)?;
+        Ok(())
+    }
+
+    /// The count that was read.
+    fn count(&self) -> Result<u32, Unread>
+        ensures { IfOk result (λ times. (0 < self.now.number.digits) × (times ≡ self.now.number.value)) }
+    {
+        if self.number.digits == 0 {
+            return Err(Unread::Malformed);
+        }
+        Ok(self.number.value)
+    }
+
+    fn begin_line(&mut self, letter: u8) -> Result<Place, Unread> {
+        self.is_open = true;
+        self.number = Number::new();
         match Kind::try_from(letter)? {
-            Kind::Remark => Ok(()),
-            Kind::Numbers(list) => self.take_numbers(alloc, list, letters.as_str()),
-            Kind::Bytes => self.take_bytes(alloc, letters.as_str()),
+            Kind::Remark => Ok(Place::Remark),
+            Kind::Numbers(list) => self.begin_numbers(list),
+            Kind::Bytes => Ok(self.begin_bytes()),
+            Kind::End => Ok(Place::End),
         }
+    }
+
+    /// Where the byte leads.
+    fn next_place(&mut self, byte: u8) -> Result<Place, Unread> {
+        match self.place {
+            Place::Start => self.begin_line(byte),
+            Place::Numbers(list) => self.take_in_numbers(list, byte),
+            Place::NumbersCount(list) => self.take_in_numbers_count(list, byte),
+            Place::Bytes => self.take_in_bytes(byte),
+            Place::BytesCount => self.take_in_bytes_count(byte),
+            Place::Remark | Place::Wrong if byte == b'\n' => Ok(Place::Start),
+            Place::End if byte == b'\n' => Ok(Place::Ended),
+            Place::End => Err(Unread::Malformed),
+            place => Ok(place),
+        }
+    }
+
+    /// A byte of the image. The rest of a line that is not of the form is passed over.
+    fn take(&mut self, byte: u8) -> Result<(), Unread> {
+        match self.next_place(byte) {
+            Ok(place) => self.place = place,
+            Err(Unread::Malformed) => {
+                self.is_malformed = true;
+                self.place = if byte == b'\n' {
+                    Place::Start
+                } else {
+                    Place::Wrong
+                };
+            }
+            Err(unread) => return Err(unread),
+        }
+        Ok(())
+    }
+
+    /// Bytes of the input, up to the image's end: how many.
+    pub fn take_all(&mut self, bytes: &[u8]) -> Result<usize, Unread>
+        ensures within { IfOk result (λ count. count ≤ length bytes.now) }
+        ensures all { IfOk result (λ count. count < length bytes.now → self.new.place ≡ Place.Ended) }
+    {
+        for (index, byte) in bytes.iter().enumerate() {
+            self.take(*byte)?;
+            if self.is_ended() {
+                return Ok(index + 1);
+            }
+        }
+        Ok(bytes.len())
     }
 }
 
-/// What stands on a line before its count, and the count.
-fn counted(text: &str) -> Result<(&str, usize), Unread> {
-    match text.split_once('*') {
-        Some((text, count)) => {
-            let times = number_of(count).ok_or(Unread::Malformed)?;
-            Ok((text, times as usize))
-        }
-        None => Ok((text, 1)),
-    }
-}
-
-/// Elements as often as is asked for, where there is room for so many.
-fn repeated<T: Clone + Drop>(
+/// What stands from a place on in a list comes as often as is asked for: once, twice, four times and so on for each bit of the number.
+fn repeat_from<T: Copy + Drop>(
     alloc: Global,
-    items: &[T],
-    times: usize,
-    room: usize,
-) -> Result<Option<Vec<T>>, AllocError> {
-    match items.len().checked_mul(times) {
-        Some(count) if count <= room => Ok(Some(items.repeat(alloc, times)?)),
-        _ => Ok(None),
+    start: usize,
+    times: u32,
+    items: &mut Vec<T>,
+) -> Result<(), AllocError>
+    requires { start ≤ vec_len items.old }
+    ensures len { OnOk result (vec_len items.new ≡ start + (vec_len items.old - start) * times) }
+    ensures items { OnOk result (items.new.items ≡ take start items.old.items ++ repeat times (drop start items.old.items)) }
+{
+    let mut line = Vec::from_slice(alloc, &items[start..])?;
+    items.truncate(start);
+    let mut left = times;
+    while left > 0 {
+        if left % 2 == 1 {
+            items.extend_from_slice(&line)?;
+        }
+        left /= 2;
+        double(alloc, left > 0, &mut line)?;
     }
+    Ok(())
 }
 
-/// The image of some lines.
-fn read(alloc: Global, lines: &[&str]) -> Result<Image, Unread> {
-    let mut reading = Reading::new(alloc);
-    for line in lines {
-        reading.take_line(alloc, line)?;
+/// Twice the elements, if that is asked for.
+fn double<T: Copy + Drop>(
+    alloc: Global,
+    is_asked: bool,
+    items: &mut Vec<T>,
+) -> Result<(), AllocError>
+    ensures { OnOk result (items.new.items ≡ items.old.items ++ cond is_asked items.old.items []) }
+{
+    if is_asked {
+        let more = Vec::from_slice(alloc, items)?;
+        items.extend_from_slice(&more)?;
     }
-    if reading.is_too_long {
-        return Err(Unread::TooLong);
-    }
-    Ok(reading.image)
-}
-
-/// The image of lines that `=` ends.
-pub fn read_ended(alloc: Global, lines: &[&str]) -> Result<Image, Unread> {
-    match lines.split_last() {
-        Some((last, lines)) if *last == "=" => read(alloc, lines),
-        _ => Err(Unread::Malformed),
-    }
+    Ok(())
 }

@@ -17,34 +17,56 @@
 mod digits;
 mod image;
 
+use image::Reading;
 pub use image::{Image, Unread};
 use std::alloc::Global;
-use std::io::{self, ErrorKind, Read, Write};
+use std::io::{self, BufRead, BufReader, ErrorKind, Read, Write};
 
-/// All that a reader gives. Bytes that are no text become a character that stands in no line but a remark.
-pub fn read_text<R: Read + Drop>(alloc: Global, mut from: R) -> io::Result<String> {
-    let mut bytes = Vec::new(alloc);
-    from.read_to_end(&mut bytes)?;
-    Ok(String::from_utf8_lossy(alloc, &bytes)?)
+/// After so many images the rest of the input is passed over.
+const MOST_IMAGES: usize = 1000000;
+
+/// Nothing says that the input ends; a million reads are four gigabytes.
+const MOST_READS: usize = 1000000;
+
+/// The image that comes next, as far as the input goes.
+fn read_image<R: Read>(alloc: Global, from: &mut BufReader<R>) -> io::Result<Reading> {
+    let mut reading = Reading::new(alloc);
+    for _ in 0..MOST_READS {
+        let Ok(taken) = reading.take_all(from.buffer()) else {
+            return Err(io::Error::from(ErrorKind::OutOfMemory));
+        };
+        from.consume(taken);
+        if reading.is_ended() || from.fill_buf()?.is_empty() {
+            break;
+        }
+    }
+    Ok(reading)
 }
 
-/// What is written for each image of a text: what `answer` writes, or why there is no answer, and a line `=`.
-pub fn answer_all<W: Write, F: Fn(&mut W, &Image) -> io::Result<()>>(
+/// What is written for each image that is read: what `answer` writes, or why there is no answer, and a line `=`. It is written before more
+/// is read than the image needs.
+pub fn answer_all<R: Read, W: Write, F: Fn(&mut W, &Image) -> io::Result<()>>(
     alloc: Global,
-    text: &str,
+    from: &mut BufReader<R>,
     out: &mut W,
     answer: F,
 ) -> io::Result<()>
     requires { F.IsAlwaysCallable answer }
 {
-    let lines: Vec<&str> = text.split_terminator('\n').collect(alloc)?;
-    for lines in lines.split_inclusive(|line| *line == "=") {
-        match image::read_ended(alloc, lines) {
+    for _ in 0..MOST_IMAGES {
+        let reading = read_image(alloc, from)?;
+        if !reading.is_ended() {
+            if reading.is_open() {
+                writeln!(out, "{}\n=", Unread::Malformed)?;
+            }
+            break;
+        }
+        match reading.image() {
             Ok(image) => answer(out, &image)?,
-            Err(Unread::OutOfMemory) => return Err(io::Error::from(ErrorKind::OutOfMemory)),
             Err(unread) => writeln!(out, "{unread}")?,
         }
         writeln!(out, "=")?;
+        out.flush()?;
     }
     out.flush()
 }

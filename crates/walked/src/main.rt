@@ -19,15 +19,23 @@
 
 mod answer;
 
-use std::io::{self, BufWriter};
+use std::io::{self, BufReader, BufWriter};
+use streams::{Ending, Lossy};
+
+/// How much is read at a time.
+const READ_ROOM: usize = 4096;
 
 fn main(rt: HostRuntime) -> io::Result<()> {
     let alloc = rt.alloc();
-    let text = lines::read_text(alloc, rt.reader())?;
-    let mut out = BufWriter::new(alloc, io::writer(&rt))?;
+    let input = Ending { inner: rt.reader() };
+    let output = Lossy {
+        inner: io::writer(&rt),
+    };
+    let mut from = BufReader::with_capacity(alloc, READ_ROOM, input)?;
+    let mut out = BufWriter::new(alloc, output)?;
     lines::answer_all(
         alloc,
-        &text,
+        &mut from,
         &mut out,
         |out, image| answer::answer(alloc, out, image),
     )

@@ -2,19 +2,32 @@
 //! what the walk takes it for. A line that is no word prints '?'.
 #![tactic(auto)]
 
-ghost use Rattle.std.specs.Prelude.{◌≡◌, ◌∷◌, [], ◌++◌, cond, length, filter, codes, string_bytes, IfOk, IfSome, OnOk};
+ghost use Rattle.std.specs.Prelude.{◌≡◌, ◌<◌, ◌+◌, ◌∷◌, [], ◌++◌, cond, length, filter, codes, IfOk, IfSome, OnOk};
+ghost use Rattle.std.specs.Io.KnownBytes.{Appends};
+ghost use Rattle.arrayvec.specs.ArrayVec.{array_vec_len};
 ghost use Rattle.rules.specs.Registers.{registers_named};
 ghost use Rattle.words.specs.Kinds.{is_kind};
 ghost use Rattle.words.specs.declared.kind.TheConstants.{KINDS};
 
 mod kind;
 
+use arrayvec::ArrayVec;
 use kind::{KINDS, Kind};
 use ppc::fields::{field, field_ra, field_rb, field_rd};
 use ppc::registers::{is_branch, register_fields};
 use std::alloc::{AllocError, Global};
 use std::convert::AsStr;
-use std::io::{self, BufRead, BufReader, BufWriter, Write};
+use std::io::{self, BufWriter, Read, Write};
+use streams::{Ending, Lossy};
+
+/// Room for what is read of the input at a time.
+type Space = [u8; 4096];
+
+/// Nothing says that the input ends; a million reads are four gigabytes.
+const MOST_READS: usize = 1000000;
+
+/// What is kept of a line: a ninth byte says that it is no word, and further ones nothing more.
+type Line = ArrayVec<u8, 9>;
 
 /// The word of a line of eight hexadecimal digits.
 fn word_of(line: &[u8]) -> Option<u32>
@@ -27,28 +40,29 @@ fn word_of(line: &[u8]) -> Option<u32>
 }
 
 /// One more register, if a word names it.
-fn push_named(named: &mut Vec<u32>, is_named: bool, register: u32) -> Result<(), AllocError>
-    ensures { OnOk result (named.new.items ≡ named.old.items ++ cond is_named (register ∷ []) []) }
+fn push_named(named: &mut ArrayVec<u32, 4>, is_named: bool, register: u32)
+    requires { array_vec_len named.old < 4 }
+    ensures items { named.new.items ≡ named.old.items ++ cond is_named (register ∷ []) [] }
+    ensures len { array_vec_len named.new ≡ array_vec_len named.old + cond is_named 1 0 }
 {
     if is_named {
-        named.push(register)?;
+        named.push(register);
     }
-    Ok(())
 }
 
 /// The registers that a word names, in the order of its fields.
-fn registers(alloc: Global, word: u32) -> Result<Vec<u32>, AllocError>
-    ensures { IfOk result (λ v. v.items ≡ registers_named word) }
+fn registers(word: u32) -> ArrayVec<u32, 4>
+    ensures { result.items ≡ registers_named word }
 {
     let code = register_fields(word);
     let a = field_ra(word);
-    let mut named = Vec::new(alloc);
-    push_named(&mut named, field(code, 0, 1) == 1, field_rd(word))?;
-    push_named(&mut named, field(code, 1, 1) == 1, a)?;
+    let mut named = ArrayVec::new();
+    push_named(&mut named, field(code, 0, 1) == 1, field_rd(word));
+    push_named(&mut named, field(code, 1, 1) == 1, a);
     // here the number 0 stands for no register
-    push_named(&mut named, (field(code, 2, 1) == 1) & (a != 0), a)?;
-    push_named(&mut named, field(code, 3, 1) == 1, field_rb(word))?;
-    Ok(named)
+    push_named(&mut named, (field(code, 2, 1) == 1) & (a != 0), a);
+    push_named(&mut named, field(code, 3, 1) == 1, field_rb(word));
+    named
 }
 
 /// What the walk takes a word for.
@@ -62,39 +76,89 @@ fn kinds(alloc: Global, word: u32) -> Result<Vec<Kind>, AllocError>
         .collect(alloc)
 }
 
-/// Names with commas between them; '-' for none.
-fn listed(alloc: Global, names: &[String]) -> Result<String, AllocError>
-    ensures { names.now ≡ [] → IfOk result (λ s. string_bytes s ≡ codes "-") }
+/// Registers with commas between them; '-' for none.
+fn print_registers<W: Write>(out: &mut W, registers: &[u32]) -> io::Result<()>
+    ensures { registers.now ≡ [] → OnOk result (Appends (W.contents out.old) (W.contents out.new) (codes "-")) }
 {
-    if names.is_empty() {
-        return String::from_str(alloc, "-");
+    if registers.is_empty() {
+        return out.write_all(b"-");
     }
-    names.join(alloc, ",")
+    for (index, register) in registers.iter().enumerate() {
+        let before = if index == 0 { "r" } else { ",r" };
+        write!(out, "{before}{register}")?;
+    }
+    Ok(())
 }
 
-fn described(alloc: Global, word: u32) -> Result<String, AllocError> {
+/// Kinds with commas between them; '-' for none.
+fn print_kinds<W: Write>(out: &mut W, kinds: &[Kind]) -> io::Result<()>
+    ensures { kinds.now ≡ [] → OnOk result (Appends (W.contents out.old) (W.contents out.new) (codes "-")) }
+{
+    if kinds.is_empty() {
+        return out.write_all(b"-");
+    }
+    for (index, kind) in kinds.iter().enumerate() {
+        if index > 0 {
+            out.write_all(b",")?;
+        }
+        write!(out, "{kind}")?;
+    }
+    Ok(())
+}
+
+fn print_word<W: Write>(alloc: Global, out: &mut W, word: u32) -> io::Result<()> {
     let branch = if is_branch(word) { "branch" } else { "-" };
-    let registers: Vec<String> = registers(alloc, word)?
-        .iter()
-        .map(|register| format!(in alloc; "r{register}"))
-        .try_collect(alloc)?;
-    let kinds: Vec<String> = kinds(alloc, word)?
-        .iter()
-        .map(|kind| format!(in alloc; "{kind}"))
-        .try_collect(alloc)?;
-    let registers = listed(alloc, &registers)?;
-    let kinds = listed(alloc, &kinds)?;
-    format!(in alloc; "{word:08X} {branch} {registers} {kinds}")
+    write!(out, "{word:08X} {branch} ")?;
+    print_registers(out, &registers(word))?;
+    out.write_all(b" ")?;
+    print_kinds(out, &kinds(alloc, word)?)?;
+    out.write_all(b"\n")
+}
+
+fn print_line<W: Write>(alloc: Global, out: &mut W, line: &[u8]) -> io::Result<()> {
+    match word_of(line) {
+        Some(word) => print_word(alloc, out, word),
+        None => out.write_all(b"?\n"),
+    }
+}
+
+/// Bytes of the input: each goes on with the line, or ends it.
+fn take<W: Write>(alloc: Global, out: &mut W, line: &mut Line, bytes: &[u8]) -> io::Result<()> {
+    for byte in bytes {
+        if *byte == b'\n' {
+            print_line(alloc, out, line.as_slice())?;
+            line.clear();
+        } else {
+            let _ = line.try_push(*byte);
+        }
+    }
+    Ok(())
+}
+
+/// What is read at a time is answered before more is read.
+fn answer_all<R: Read, W: Write>(alloc: Global, from: &mut R, out: &mut W) -> io::Result<()> {
+    let mut line = ArrayVec::new();
+    let mut space: Space = [0; 4096];
+    for _ in 0..MOST_READS {
+        let count = from.read(&mut space)?;
+        if count == 0 {
+            break;
+        }
+        take(alloc, out, &mut line, &space[..count])?;
+        out.flush()?;
+    }
+    if !line.is_empty() {
+        print_line(alloc, out, line.as_slice())?;
+    }
+    out.flush()
 }
 
 fn main(rt: HostRuntime) -> io::Result<()> {
     let alloc = rt.alloc();
-    let mut out = BufWriter::new(alloc, io::writer(&rt))?;
-    for line in BufReader::new(alloc, rt.reader())?.split(alloc, b'\n') {
-        match word_of(&line?) {
-            Some(word) => writeln!(out, "{}", described(alloc, word)?)?,
-            None => writeln!(out, "?")?,
-        }
-    }
-    out.flush()
+    let mut from = Ending { inner: rt.reader() };
+    let to = Lossy {
+        inner: io::writer(&rt),
+    };
+    let mut out = BufWriter::new(alloc, to)?;
+    answer_all(alloc, &mut from, &mut out)
 }

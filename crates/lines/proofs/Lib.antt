@@ -1,0 +1,2 @@
+-- A line that comes as often as its count says.
+pub mod Repeats
