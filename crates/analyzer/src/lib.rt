@@ -45,8 +45,7 @@ fn is_unfinalized(row: &Row, info: &FunctionInfo) -> bool
 }
 
 impl AnalyzerState {
-    /// No entry. (Where it is inlined the compiler makes the whole state twice on its caller's stack.)
-    #[inline(never)]
+    /// No entry.
     pub fn new(room: usize) -> Self
         ensures { (lists : List ℕ) → Holds (record { entries = room; numbers = length lists }) result lists [] }
     {

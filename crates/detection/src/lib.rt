@@ -16,10 +16,11 @@ ghost use Rattle.obj_info.specs.Info.{image_of};
 ghost use Rattle.detection.specs.Maps.{room_of, reply_of, Left, Told, Counted};
 
 use analyzer::AnalyzerState;
+use arrayvec::ArrayVec;
 use faults::Fault;
 use obj_info::ObjInfo;
 use result_lists::{ROW, put_results};
-use walks::Walk;
+use walks::{KnownFunctions, Walk};
 
 /// How many entries a map has, and how many numbers their lists have.
 #[derive(Clone, Copy, Debug, PartialEq, Eq)]
@@ -42,7 +43,12 @@ fn detect(obj: &ObjInfo, rows: &mut [u64], lists: &mut [u64]) -> Result<MapSize,
         rows.old lists.old rows.new lists.new result }
 {
     let room = rows.len() / ROW;
-    let mut state = AnalyzerState::new(room);
+    // written out, since of a state that a function answers the compiler makes another one on this stack
+    let mut state = AnalyzerState {
+        known: KnownFunctions::new(),
+        infos: ArrayVec::new(),
+        room,
+    };
     let mut walk = Walk::new();
     match rounds::detect(&mut state, lists, &mut walk, obj, room) {
         Ok(()) => {

@@ -16,13 +16,13 @@ use slices::FunctionSlices;
 /// What is stored of a function beside the numbers of its lists: how many each list has, and what is no list.
 #[derive(Clone, Copy, Debug, Default, PartialEq, Eq)]
 pub struct Header {
+    pub prologue: Option<u64>,
+    pub epilogue: Option<u64>,
     pub blocks: u16,
     pub branches: u16,
     pub function_references: u16,
     pub jump_table_references: u16,
     pub possible_blocks: u16,
-    pub prologue: Option<u64>,
-    pub epilogue: Option<u64>,
     pub has_conditional_blr: bool,
     pub has_rfi: bool,
     pub finalized: bool,

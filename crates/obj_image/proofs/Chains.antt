@@ -68,4 +68,3 @@ module _ (s : List ℕ) (whole : length s % 4 ≡ 0) (c : List (List ℕ)) (cut 
 
   pub lies_nowhere : length c ≤ i → 0 ≡ locate_in 1 (rows 4 section_row s) a
   lies_nowhere past = sym (ap (λ (l : List (List ℕ)). locate_in n (map read_row l) a) (drop_of_length-le c past)) ∙ same ∙ all
-

@@ -1,6 +1,5 @@
 // The state of a walk, and its elementary changes.
-ghost use Rattle.std.specs.Prelude.{◌≡◌, ◌<◌, [], length};
-ghost use Rattle.rules.specs.Address.{address_of};
+ghost use Rattle.std.specs.Prelude.{◌≡◌, ◌+◌, ◌<◌, [], length};
 ghost use Rattle.rules.specs.Analyze.{new_walk};
 ghost use Rattle.rules.specs.Slices as lists;
 ghost use Rattle.rules.specs.Step as rules;
@@ -50,7 +49,7 @@ impl Walk {
 
     /// The block ends behind the word at `addr`.
     pub fn end_block(&mut self, addr: u64, block: u64) -> Result<(), Fault>
-        requires { address_of addr < 0xF000_0000 }
+        requires { addr + 4 < 0x1_0000_0000_0000_0000 }
         ensures { outcome (walk_of self.new) result ≡ rules.end_block addr block (walk_of self.old) }
     {
         self.slices.set_block(block, addr + 4)?;

@@ -10,9 +10,10 @@ returns-then-contains c =
     (lies_here c.args.sections.now c.requires.whole c.as_chunks.result.0.now c.as_chunks.ensures.front c.args.a c.loop-row.number c.loop-row.row-index c.loop-row.invariant.1 _ _ _ _ c.loop-row-test.true c.from.ensures c.contains.ensures c.if-contains.true c.wide.ensures.0)
 
 pub loop-row-preserved : goal.loop-row-preserved
-loop-row-preserved c =
-    (omega (arith, c.loop-row.invariant.0),
-    lies_later c.args.sections.now c.requires.whole c.as_chunks.result.0.now c.as_chunks.ensures.front c.args.a c.loop-row.number c.loop-row.row-index c.loop-row.invariant.1 _ _ _ c.loop-row-test.true c.from.ensures c.contains.ensures c.if-contains.false)
+loop-row-preserved c = (
+  omega (arith, c.loop-row.invariant.0),
+  lies_later c.args.sections.now c.requires.whole c.as_chunks.result.0.now c.as_chunks.ensures.front c.args.a c.loop-row.number c.loop-row.row-index c.loop-row.invariant.1 _ _ _ c.loop-row-test.true c.from.ensures c.contains.ensures c.if-contains.false,
+)
 
 pub returns : goal.returns
 returns c =
