@@ -95,11 +95,12 @@ fn fits_kind(sections: &[u32], kind: Kind, r: Row) -> bool
     ensures { result ≡ rules.fits_kind (seen sections.now) (row_of r) }
 {
     let none = (r.third == 0) & (r.fourth == 0);
+    // the kinds that most words have, by a comparison: a jump by the kind takes longer
+    if r.kind <= 3 {
+        return (r.first == 0) & (r.second == 0) & none;
+    }
     match kind {
-        // the kinds that most words have
-        Kind::GoOn | Kind::Illegal | Kind::Unknown | Kind::Return => {
-            (r.first == 0) & (r.second == 0) & none
-        },
+        Kind::GoOn | Kind::Illegal | Kind::Unknown | Kind::Return => false,
         Kind::Jump => is_inside(sections, r.first) & (r.second == 0) & none,
         Kind::JumpTable => is_inside(sections, r.first) & (r.second <= 65536) & none,
         Kind::Branches => {
@@ -118,6 +119,8 @@ fn is_outcome(sections: &[u32], r: Row) -> bool
     }
 }
 
+// (Not inlined: among all that the other checks hold, a row's numbers would have no registers.)
+#[inline(never)]
 pub fn are_outcomes(sections: &[u32], outcomes: &[[u32; 6]]) -> bool
     requires { Few sections.now }
     ensures { result ≡ rules.all (rules.is_outcome (seen sections.now))
