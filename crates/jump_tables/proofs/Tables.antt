@@ -7,7 +7,11 @@ use Rattle.rules.specs.Address.{address_of}
 use Rattle.rules.specs.Image.{Image, Section, locate, section_at, holds_tables}
 use Rattle.rules.specs.JumpTable.{Entries, take_entry, sized_entries, unsized_entries, inside, ascending, clamped, table_words, sized_table, unsized_table, table_of_size, first_size, known_size, jump_table_entries}
 use Rattle.rules.proofs.Ordered.{length_put_new, length_put_old}
-use Rattle.obj_info.specs.Info.{some_nonzero}
+use Rattle.obj_image.specs.Lent.{Lent, image}
+use Rattle.obj_info.specs.Info.{lent_of, image_of, tables_of, table_lent, table_image, some_nonzero}
+use Rattle.obj_info.specs.declared.info.ObjInfo.{ObjInfo}
+use Rattle.obj_info.specs.declared.info.TableInfo.{TableInfo}
+use Rattle.obj_info.proofs.Tables.{locate_same, section_same, objects_same}
 use Rattle.jump_tables.specs.declared.reading.Reading.{Reading}
 use Rattle.jump_tables.specs.Readings.{begun, taken, sized_words, is_before, is_inside, unsized_words}
 use Rattle.jump_tables.specs.Entries.{sized_reading, unsized_end, unsized_reading}
@@ -162,3 +166,35 @@ module _ (im : Image) (t n first end : ℕ) (sec : Section) (is_sec : sec ≡ se
     unfolding jump_table_entries table_of_size
     held_sized z c is_c ws is_ws e =
         rw (if_true (kind_is true is) _ _, ← is_m, if_false (ne_eqb m 0 z) _ _, ← is_sec, sized_is im sec (address_of t) m c is_c, ← is_ws) e
+
+-- ---- by the lists that a table is read by
+
+module _ (l : Lent) where
+  sized_same : (room : ℕ) (vs : List ℕ) → sized_entries (image (tables_of l)) room vs ≡ sized_entries (image l) room vs
+  sized_same room [] = refl
+  sized_same room (v ∷ vs) = rw (locate_same l v, sized_same room vs, sized_same (room - 1) vs) refl
+
+  unsized_same : (first end room : ℕ) (vs : List ℕ) → unsized_entries (image (tables_of l)) first end room vs ≡ unsized_entries (image l) first end room vs
+  unsized_same first end room [] = refl
+  unsized_same first end room (v ∷ vs) = rw (locate_same l v, unsized_same first end (room - 1) vs) refl
+
+  same_sized : (sec : Section) (a n : ℕ) → sized_table (image (tables_of l)) sec a n ≡ sized_table (image l) sec a n
+  unfolding sized_table
+  same_sized sec a n = rw (sized_same 256 (take (clamped sec a n / 4) (table_words sec a))) refl
+
+  same_unsized : (sec : Section) (a first end : ℕ) → unsized_table (image (tables_of l)) sec a first end ≡ unsized_table (image l) sec a first end
+  unfolding unsized_table
+  same_unsized sec a first end = rw (unsized_same first end 256 (table_words sec a)) refl
+
+  same_size : (sec : Section) (a n first end : ℕ) → table_of_size (image (tables_of l)) sec a n first end ≡ table_of_size (image l) sec a n first end
+  unfolding table_of_size
+  same_size sec a n first end = rw (same_sized sec a n, same_unsized sec a first end) refl
+
+  pub entries_same : (t n first end : ℕ) → jump_table_entries (image (tables_of l)) t n first end ≡ jump_table_entries (image l) t n first end
+  unfolding jump_table_entries
+  entries_same t n first end =
+      rw (section_same l t, same_size (section_at (image l) t) (address_of t) (first_size (known_size (address_of t) (image (tables_of l)).objects) n) first end, objects_same l) refl
+
+-- of what tables are read by, of an image
+pub entries_by : (i : ObjInfo) (by : TableInfo) → table_lent by ≡ tables_of (lent_of i) → (t n first end : ℕ) → jump_table_entries (table_image by) t n first end ≡ jump_table_entries (image_of i) t n first end
+entries_by i by e t n first end = ap (λ (l : Lent). jump_table_entries (image l) t n first end) e ∙ entries_same (lent_of i) t n first end

@@ -2,12 +2,12 @@
 ghost use Rattle.std.specs.Prelude.{◌≡◌, map};
 ghost use Rattle.rules.specs.Bytes.{words_in};
 ghost use Rattle.faults.specs.Outcome.{outcome};
-ghost use Rattle.obj_info.specs.Info.{image_of};
+ghost use Rattle.obj_info.specs.Info.{table_image};
 ghost use Rattle.jump_tables.specs.Readings.{number_in, sized_word, is_inside, target_inside};
 
 use crate::reading::Reading;
 use faults::Fault;
-use obj_info::ObjInfo;
+use obj_info::TableInfo;
 
 // The words of these bytes; fewer than four at the end are none.
 pub fn words_of(bytes: &[u8]) -> &[[u8; 4]]
@@ -17,8 +17,8 @@ pub fn words_of(bytes: &[u8]) -> &[[u8; 4]]
 }
 
 // A word of a table with a size: zero words are passed over.
-pub fn sized_word(obj: &ObjInfo, reading: &mut Reading, value: u32) -> Result<(), Fault>
-    ensures { outcome reading.new result ≡ sized_word (image_of obj.now) value reading.old }
+pub fn sized_word(obj: &TableInfo, reading: &mut Reading, value: u32) -> Result<(), Fault>
+    ensures { outcome reading.new result ≡ sized_word (table_image obj.now) value reading.old }
 {
     if value == 0 {
         return Ok(());
@@ -37,8 +37,8 @@ fn is_inside(first: u64, past: Option<u64>, target: u64) -> bool
 }
 
 // The address that a word is, if that is inside the function.
-pub fn target_inside(obj: &ObjInfo, first: u64, past: Option<u64>, value: u32) -> Option<u64>
-    ensures { result ≡ target_inside (image_of obj.now) first past value }
+pub fn target_inside(obj: &TableInfo, first: u64, past: Option<u64>, value: u32) -> Option<u64>
+    ensures { result ≡ target_inside (table_image obj.now) first past value }
 {
     let target = obj.locate(value)?;
     is_inside(first, past, target).then_some(target)

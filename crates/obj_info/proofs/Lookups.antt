@@ -162,13 +162,13 @@ module _ (l : Lent) (checked : check (given l) ≡ 0) where
 
 -- ---- sections
 
-pub located_low : (l : Lent) → check (given l) ≡ 0 → (a : ℕ) → a < 0x1_0000_0000 → images.locate (image l) a < 0x10_0000_0000
+pub located_low : (l : Lent) → rules.check_image (given l) ≡ true → (a : ℕ) → a < 0x1_0000_0000 → images.locate (image l) a < 0x10_0000_0000
 unfolding images.locate image_of given
-located_low l checked a h = rows_located (rows 4 section_row l.sections) l.bytes a (rowwise l (passed_of (given l) checked).image).few h
+located_low l passed a h = rows_located (rows 4 section_row l.sections) l.bytes a (rowwise l passed).few h
 
-module _ (l : Lent) (checked : check (given l) ≡ 0) (k : ℕ) (p : Part) (part : IsPart l k p) where
+module _ (l : Lent) (passed : rules.check_image (given l) ≡ true) (k : ℕ) (p : Part) (part : IsPart l k p) where
   pub part_end : p.kind ≢ 4 → p.offset + p.size ≤ length l.bytes
-  part_end = part.inside (passed_of (given l) checked).image
+  part_end = part.inside passed
 
   abbrev part_bytes : List ℕ
   part_bytes = if (eqb p.kind 4) [] (take p.size (drop p.offset l.bytes))
@@ -176,7 +176,7 @@ module _ (l : Lent) (checked : check (given l) ≡ 0) (k : ℕ) (p : Part) (part
   no_words : p.kind ≡ 4 → (section_at (image l) k).words ≡ []
   unfolding section_at image_of given if
   no_words e =
-      let r : Rowwise (rows 4 section_row l.sections) = rowwise l (passed_of (given l) checked).image in
+      let r : Rowwise (rows 4 section_row l.sections) = rowwise l passed in
       let b : (section_at (image l) k).kind ≡ images.bss = sym part.kind ∙ ap kind_of e in
       bss_empty (rows 4 section_row l.sections) l.bytes (section_of k - 1) r.kinds r.has_bytes b
 
@@ -186,7 +186,7 @@ module _ (l : Lent) (checked : check (given l) ≡ 0) (k : ℕ) (p : Part) (part
     where
       go : (t : Bool) → eqb p.kind 4 ≡ t → words_in (if t [] (take p.size (drop p.offset l.bytes))) ≡ (section_at (image l) k).words
       go true q = sym (no_words (eqb-true _ _ q))
-      go false q = part.words (passed_of (given l) checked).image (eqb-false _ _ q)
+      go false q = part.words passed (eqb-false _ _ q)
 
   pub section_found : (kd : Kind) (b : List ℕ) → kd ≡ kind_of p.kind → b ≡ part_bytes → record { kind = kd; base = p.base; size = p.size; words = words_in b } ≡ section_at (image l) k
   section_found kd b e f = rw (f, e, part_words, part.kind, part.base, part.size) refl

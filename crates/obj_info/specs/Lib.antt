@@ -1,2 +1,3 @@
 pub mod Info
 pub mod Sections
+pub mod Ascending

@@ -4,10 +4,22 @@ ghost use Rattle.rules.specs.Image as images;
 ghost use Rattle.rules.specs.JumpTable.{known_size};
 ghost use Rattle.rules.specs.Map.{Capacity, skip_range};
 ghost use Rattle.rules.specs.Step.{Around, symbol_over};
-ghost use Rattle.obj_info.specs.Info.{image_of, some_nonzero, symbol_in};
+ghost use Rattle.obj_info.specs.Info.{image_of, table_image, some_nonzero, symbol_in};
 
-use crate::info::ObjInfo;
+use crate::info::{ObjInfo, TableInfo};
 use obj::{skips, symbols};
+
+impl<'a> TableInfo<'a> {
+    /// The known size, if it is not 0, of the object symbol at an address.
+    pub fn known_size(&self, a: u32) -> Option<u32>
+        ensures { result ≡ some_nonzero (known_size a (table_image self.now).objects) }
+    {
+        match symbols::known_size(self.sections, self.objects, a) {
+            0 => None,
+            size => Some(size),
+        }
+    }
+}
 
 impl<'a> ObjInfo<'a> {
     /// The function symbols, ascending: address, size, and 1 where the size is known.
@@ -32,10 +44,7 @@ impl<'a> ObjInfo<'a> {
     pub fn known_size(&self, a: u32) -> Option<u32>
         ensures { result ≡ some_nonzero (known_size a (image_of self.now).objects) }
     {
-        match symbols::known_size(self.sections, self.objects, a) {
-            0 => None,
-            size => Some(size),
-        }
+        self.tables().known_size(a)
     }
 
     /// Whether an address lies in a skip range.

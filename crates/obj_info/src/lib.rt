@@ -8,7 +8,7 @@ mod keys;
 mod known;
 mod sections;
 
-pub use info::ObjInfo;
+pub use info::{ObjInfo, TableInfo};
 pub use keys::{address_of, section_of};
 pub use obj::outcomes::{Branch, Outcome, To, Told};
 pub use obj::sections::Code;

@@ -4,10 +4,10 @@ ghost use Rattle.rules.specs.Choice.{if};
 ghost use Rattle.rules.specs.Image as images;
 ghost use Rattle.rules.specs.Address.{address_of};
 ghost use Rattle.rules.specs.Given.{kind_of};
-ghost use Rattle.obj_info.specs.Info.{image_of, some_nonzero};
+ghost use Rattle.obj_info.specs.Info.{image_of, table_image, some_nonzero};
 ghost use Rattle.obj_info.specs.Sections.{kind_for, section_for};
 
-use crate::info::ObjInfo;
+use crate::info::{ObjInfo, TableInfo};
 use obj::sections::{Part, is_in_section, locate, section_of};
 
 /// What a section is of.
@@ -61,16 +61,39 @@ fn bytes_of(bytes: &[u8], part: Part) -> &[u8]
     &bytes[from..from + part.size as usize]
 }
 
-impl<'a> ObjInfo<'a> {
+impl<'a> TableInfo<'a> {
     /// A 32-bit address with the section that it lies in: the section's number, counted from 1, before it.
     pub fn locate(&self, a: u32) -> Option<u64>
-        ensures value { result ≡ some_nonzero (images.locate (image_of self.now) a) }
+        ensures value { result ≡ some_nonzero (images.locate (table_image self.now) a) }
         ensures low { IfSome result (λ key. key < 0x10_0000_0000) }
     {
         match locate(self.sections, a) {
             0 => None,
             key => Some(key),
         }
+    }
+
+    /// The section that an address is of; an empty one of bss where there is none.
+    pub fn section_at(&self, key: u64) -> Section<'a>
+        ensures { section_for result ≡ images.section_at (table_image self.now) key }
+    {
+        let part = section_of(self.sections, key);
+        Section {
+            kind: SectionKind::of(part.kind),
+            base: part.base,
+            size: part.size,
+            bytes: bytes_of(self.bytes, part),
+        }
+    }
+}
+
+impl<'a> ObjInfo<'a> {
+    /// A 32-bit address with the section that it lies in: the section's number, counted from 1, before it.
+    pub fn locate(&self, a: u32) -> Option<u64>
+        ensures value { result ≡ some_nonzero (images.locate (image_of self.now) a) }
+        ensures low { IfSome result (λ key. key < 0x10_0000_0000) }
+    {
+        self.tables().locate(a)
     }
 
     /// Whether an address lies inside its own section.
@@ -84,12 +107,6 @@ impl<'a> ObjInfo<'a> {
     pub fn section_at(&self, key: u64) -> Section<'a>
         ensures { section_for result ≡ images.section_at (image_of self.now) key }
     {
-        let part = section_of(self.sections, key);
-        Section {
-            kind: SectionKind::of(part.kind),
-            base: part.base,
-            size: part.size,
-            bytes: bytes_of(self.bytes, part),
-        }
+        self.tables().section_at(key)
     }
 }

@@ -14,7 +14,7 @@ ghost use Rattle.walks.specs.State.{walk_of};
 use crate::around::Around;
 use crate::walk::Walk;
 use faults::Fault;
-use jump_tables::{JumpTable, uniq_jump_table_entries};
+use jump_tables::{JumpTable, uniq_jump_table_entries_of};
 
 impl Walk {
     // Whether an entry lies among the blocks of the function: behind its start, and no further than the last block or the next word.
@@ -86,7 +86,8 @@ impl Walk {
             outcome (walk_of self.new) result ≡ rules.do_table (around_of around.now es) addr target size (walk_of self.old) }
     {
         let past = self.known_end(around);
-        let table = uniq_jump_table_entries(&around.obj, target, size, around.start, past)?;
+        let tables = around.obj.tables();
+        let table = uniq_jump_table_entries_of(&tables, target, size, around.start, past)?;
         let entries = table.entries.as_slice();
         if self.is_own_table(around, addr, entries) {
             return self.do_own_table(addr, target, &table);

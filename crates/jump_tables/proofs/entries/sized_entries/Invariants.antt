@@ -1,8 +1,8 @@
 use Rattle.std.proofs.Common.{◌≡◌, map, drop}
-use Rattle.obj_info.specs.Info.{image_of}
+use Rattle.obj_info.specs.Info.{table_image}
 use Rattle.jump_tables.specs.Readings.{number_in, begun, sized_words}
 use Rattle.jump_tables.proofs.entries.sized_entries.Given as goal
 
 -- the words that are left make of the reading what all make of none
 abbrev pub invariant-loop-word : goal.invariant-loop-word
-invariant-loop-word l = sized_words (image_of l.obj) (map number_in l.word-items) begun ≡ sized_words (image_of l.obj) (map number_in (drop l.word-index l.word-items)) l.reading
+invariant-loop-word l = sized_words (table_image l.obj) (map number_in l.word-items) begun ≡ sized_words (table_image l.obj) (map number_in (drop l.word-index l.word-items)) l.reading
