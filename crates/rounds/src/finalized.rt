@@ -1,6 +1,7 @@
 // AnalyzerState::finalize_functions (cfa.rs): each function that has no end yet is finalized, if all its possible blocks can be settled.
-ghost use Rattle.std.specs.Prelude.{◌≡◌, Bool, List};
-ghost use Rattle.rules.specs.Known.{Entry};
+ghost use Rattle.std.specs.Prelude.{◌≡◌, Bool, List, ℕ, map};
+ghost use Rattle.rules.specs.Choice.{filter};
+ghost use Rattle.rules.specs.Known.{Entry, entry_of, is_unfinalized};
 ghost use Rattle.rules.specs.Map as rules;
 ghost use Rattle.faults.specs.Outcome.{outcome};
 ghost use Rattle.obj_info.specs.Info.{image_of};
@@ -11,10 +12,11 @@ ghost use Rattle.analyzer.specs.Told.{Turned};
 ghost use Rattle.rounds.specs.Settled.{settled_lists, since};
 
 use analyzer::AnalyzerState;
+use arrayvec::ArrayVec;
 use faults::Fault;
 use obj_info::{ObjInfo, section_of};
 use slices::FunctionSlices;
-use walks::{Around, KnownFunctions, Walk};
+use walks::{Around, FUNCTIONS, KnownFunctions, Walk};
 
 // A settled function is finalized, and stored behind what it refers to.
 fn keep_settled(
@@ -36,7 +38,9 @@ fn keep_settled(
     Ok(true)
 }
 
-// The possible blocks of the function at `key` are settled, from the lowest address of its section on.
+// The possible blocks of the function at `key` are settled, from the lowest address of its section on. (Not inlined: the trial walk's tables
+// are not to lie on the stack while the keys of a round are put together.)
+#[inline(never)]
 fn settle(
     walk: &mut Walk,
     obj: &ObjInfo,
@@ -54,7 +58,8 @@ fn settle(
         end: walk.slices.last_end(),
         known,
     };
-    settling::settle_all(walk, &around, section_of(key) * 0x1_0000_0000, last)
+    settling::settle_all(walk, &around, section_of(key) * 0x1_0000_0000, last)?;
+    Ok(())
 }
 
 // The entry at `key`, if it has lists: its possible blocks are settled, and where none is left it is finalized and stored. Whether it is.
@@ -81,6 +86,16 @@ fn finalize_entry(
     Ok(false)
 }
 
+// The entries with lists and no end, put where they are looked at: of a table that is answered the caller keeps two.
+#[inline(never)]
+fn put_unfinalized(state: &AnalyzerState, keys: &mut ArrayVec<u64, FUNCTIONS>)
+    ensures { (cap : rules.Capacity) (lists : List ℕ) (es : List Entry) →
+        Holds cap state.now lists es →
+        keys.new.items ≡ map entry_of (filter is_unfinalized es) }
+{
+    *keys = state.unfinalized();
+}
+
 /// AnalyzerState::finalize_functions: entries with lists and no end are finalized, those that can be. In the last rounds possible blocks
 /// are taken for the function's own where nothing speaks against it. Whether any was finalized.
 pub fn finalize_functions(
@@ -94,7 +109,8 @@ pub fn finalize_functions(
         Holds cap state.old lists.old es →
         Turned cap (rules.finalize_functions (image_of obj.now) cap last es) state.new lists.new result }
 {
-    let keys = state.unfinalized();
+    let mut keys = ArrayVec::new();
+    put_unfinalized(state, &mut keys);
     let mut changed = false;
     // Finalizing one adds others, so each is looked up anew.
     for &key in keys.as_slice() {

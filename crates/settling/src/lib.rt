@@ -5,7 +5,7 @@ ghost use Rattle.std.specs.Prelude.{◌≡◌, ◌≤◌, ℕ, Bool, List, lengt
 ghost use Rattle.rules.specs.Known.{Entry};
 ghost use Rattle.rules.specs.Slices as lists;
 ghost use Rattle.rules.specs.Settle as rules;
-ghost use Rattle.settling.specs.Settled.{settled, address_from, settling_from, settled_block};
+ghost use Rattle.settling.specs.Settled.{address_from, settling_from, settled_block};
 ghost use Rattle.faults.specs.Outcome.{outcome};
 ghost use Rattle.obj_info.specs.Info.{some_nonzero};
 ghost use Rattle.slices.specs.View.{slices_of};
@@ -19,8 +19,8 @@ use tail_calls::{TailCall, check_tail_call};
 use walks::{Around, Walk};
 
 /// From where possible blocks are looked at: from an address on, or behind the word at one, where four more may overflow.
-#[derive(Clone, Copy)]
-enum Current {
+#[derive(Clone, Copy, Debug, PartialEq, Eq)]
+pub enum Current {
     At(u64),
     Behind(u64),
 }
@@ -106,16 +106,17 @@ fn settle_block(
     settle(walk, around, block, answer, low, last)
 }
 
-/// All possible blocks from the address `low` on that can be settled, of the lists of a walk. In the last pass those of which nothing is
-/// known are the function's.
-pub fn settle_all(walk: &mut Walk, around: &Around, low: u64, last: bool) -> Result<(), Fault>
+/// All possible blocks from the address `low` on that can be settled, of the lists of a walk; from where a further one would be looked at
+/// then. In the last pass those of which nothing is known are the function's.
+pub fn settle_all(walk: &mut Walk, around: &Around, low: u64, last: bool) -> Result<Current, Fault>
     ensures { (es : List Entry) →
         Knows around.now.known.now es →
-        outcome (slices_of walk.new.slices) result ≡ settled (around_of around.now es) low last (slices_of walk.old.slices) }
+        settling_from (slices_of walk.new.slices) result ≡ rules.settle_all (around_of around.now es) low last
+        (rules.settling (slices_of walk.old.slices) low) }
 {
     let mut current = Current::At(low);
     while let Some(block) = next_possible_block(&walk.slices, current) {
         current = settle_block(walk, around, block, low, last)?;
     }
-    Ok(())
+    Ok(current)
 }

@@ -5,7 +5,7 @@ use Rattle.rounds.proofs.Each.{next_key, each_first, each_fails, each_on, each_e
 use Rattle.rounds.proofs.finalized.finalize_functions.Goals as goal
 
 pub loop-key-init : goal.loop-key-init
-loop-key-init c = λ cap es h. each_first _ cap _ es _ _ _ h (c.as_slice-key-items.ensures.value ∙ c.unfinalized-keys.ensures cap _ es h)
+loop-key-init c = λ cap es h. each_first _ cap _ es _ _ _ h (c.as_slice-key-items.ensures.value ∙ c.put_unfinalized.ensures cap _ es h)
 
 pub returns-in_err-changed : goal.returns-in_err-changed
 returns-in_err-changed c = λ cap es h.
