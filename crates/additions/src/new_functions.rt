@@ -66,6 +66,8 @@ fn add_entries(state: &mut AnalyzerState, keys: &[u64]) -> Result<(), Fault>
 }
 
 /// An entry for each function found behind an end; none is added where an end lies above the next entry. Whether any was found.
+/// (Not inlined: the keys, handed on by value, are not to lie below the walks.)
+#[inline(never)]
 pub fn detect_new_functions(state: &mut AnalyzerState, obj: &ObjInfo) -> Result<bool, Fault>
     ensures { (cap : rules.Capacity) (lists : List ℕ) (es : List Entry) →
         Holds cap state.old lists es →

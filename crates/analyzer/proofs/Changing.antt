@@ -31,6 +31,10 @@ use Rattle.analyzer.specs.Placed.{Standing}
 use Rattle.analyzer.proofs.Rows.{row_of, upper_at, there_is, known_long}
 use Rattle.analyzer.proofs.Flat.{flat_same, right_set, right_at}
 
+-- the same, but that it is analyzed
+abbrev pub with_analyzed : FunctionInfo → FunctionInfo
+with_analyzed i = record { slices = i.slices; analyzed = true; fill_1 = i.fill_1; fill_2 = i.fill_2; fill_4 = i.fill_4 }
+
 module _ {cap : Capacity} {a : AnalyzerState} {lists : List ℕ} {es : List Entry} (h : Holds cap a lists es) (k at : ℕ) (place : at ≡ rank entry_of k es) (there : has entry_of k es ≡ true) where
   abbrev x : Entry
   x = get_or es at (new_entry 0)
@@ -101,7 +105,7 @@ module _ {cap : Capacity} (es : List Entry) {k : ℕ} {a : AnalyzerState} {lists
         holds = rw z_is (kept st.holds k at st.place st.there (with_end end z) (key_at st.holds k at st.place st.there) refl new er em (ei ∙ sym (set-get_or a.infos.items at (info_of (new_entry 0))) ∙ ap (set a.infos.items at) (sym item_is)));
       })
 
-  pub aside_told : {X : Type 0} (now : List FunctionInfo) (new : AnalyzerState) (r : Result X Fault) → outcome new.known r ≡ limited 1024 (put key_of (row k 0) a.known) → new.room ≡ a.room → now ≡ a.infos.items → new.infos.items ≡ refill (length a.infos.items) a.infos.items (set now at (record { analyzed = true; slices = (get_or now at (info_of (new_entry 0))).slices })) → Told cap (set_aside cap k es) new lists r
+  pub aside_told : {X : Type 0} (now : List FunctionInfo) (new : AnalyzerState) (r : Result X Fault) → outcome new.known r ≡ limited 1024 (put key_of (row k 0) a.known) → new.room ≡ a.room → now ≡ a.infos.items → new.infos.items ≡ refill (length a.infos.items) a.infos.items (set now at (with_analyzed (get_or now at (info_of (new_entry 0))))) → Told cap (set_aside cap k es) new lists r
   unfolding set_aside
   aside_told now new r e er en ei =
       put_end st.holds k at st.place st.there 0 new.known r (Told cap _ new lists) e
@@ -112,7 +116,7 @@ module _ {cap : Capacity} (es : List Entry) {k : ℕ} {a : AnalyzerState} {lists
             rw z_is
             (kept st.holds k at st.place st.there (set_aside_entry cap z) (key_at st.holds k at st.place st.there) refl new er em
             (ei ∙ row_set now a.infos.items at _ en
-            ∙ ap (λ (i : FunctionInfo). set a.infos.items at (record { analyzed = true; slices = i.slices })) (ap (λ l. get_or l at (info_of (new_entry 0))) en ∙ sym item_is)));
+            ∙ ap (λ (i : FunctionInfo). set a.infos.items at (with_analyzed i)) (ap (λ l. get_or l at (info_of (new_entry 0))) en ∙ sym item_is)));
       })
 
 pub or_zero_is : (o : Maybe ℕ) → unwrap_or o 0 ≡ or_zero o

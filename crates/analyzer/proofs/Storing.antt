@@ -27,7 +27,7 @@ use Rattle.numbers.specs.declared.Header.{Header}
 use Rattle.numbers.specs.Stored.{header_of, Right}
 use Rattle.analyzer.specs.declared.FunctionInfo.{FunctionInfo}
 use Rattle.analyzer.specs.declared.AnalyzerState.{AnalyzerState}
-use Rattle.analyzer.specs.Table.{info_of, entry_numbers, flat}
+use Rattle.analyzer.specs.Table.{info, info_of, entry_numbers, flat}
 use Rattle.analyzer.specs.Told.{Told}
 use Rattle.analyzer.specs.Placed.{Standing, info_long, infos_long, IsReplaced, IsFull}
 use Rattle.analyzer.proofs.Flat.{flat_set, fitting_is}
@@ -92,7 +92,7 @@ module _ {cap : Capacity} (es : List Entry) {k : ℕ} {a : AnalyzerState} {lists
       numbers_now : take (length (flat (set fs at y))) now ≡ flat (set fs at y)
       numbers_now = rw (flat_set fs at there_in y) (replaced_runs lists P B C begin (numbers s) now _ from until total ef eu et is.is)
 
-      pub stored_told : {X : Type 0} (right : Right s) (hd : Header) → hd ≡ header_of s → length now ≡ length lists → (items : List FunctionInfo) (new : AnalyzerState) (r : Result X Fault) → outcome new.known r ≡ limited 1024 (put key_of (row k end) a.known) → new.room ≡ a.room → items ≡ a.infos.items → new.infos.items ≡ refill (length a.infos.items) a.infos.items (set items at (record { analyzed = true; slices = Some hd })) → Told cap (store cap k s end es) new now r
+      pub stored_told : {X : Type 0} (right : Right s) (hd : Header) → hd ≡ header_of s → length now ≡ length lists → (items : List FunctionInfo) (new : AnalyzerState) (r : Result X Fault) → outcome new.known r ≡ limited 1024 (put key_of (row k end) a.known) → new.room ≡ a.room → items ≡ a.infos.items → new.infos.items ≡ refill (length a.infos.items) a.infos.items (set items at (info (Some hd) true)) → Told cap (store cap k s end es) new now r
       stored_told right hd eh long items new r e er en ei =
           put_end st.holds k at st.place st.there end new.known r (Told cap (store cap k s end es) new now) e
           (λ b em. record {
@@ -100,6 +100,6 @@ module _ {cap : Capacity} (es : List Entry) {k : ℕ} {a : AnalyzerState} {lists
             is = fits ∙ ap ok (sym (put_here st.holds k at st.place st.there y refl));
             holds =
                 changed st.holds k at st.place st.there y refl right new er em
-                (ei ∙ row_set items a.infos.items at _ en ∙ ap (λ (h : Header). set a.infos.items at (record { analyzed = true; slices = Some h })) eh)
+                (ei ∙ row_set items a.infos.items at _ en ∙ ap (λ (h : Header). set a.infos.items at (info (Some h) true)) eh)
                 now long numbers_now;
           })

@@ -1,5 +1,5 @@
 -- The entries of the map, as a state and a lent list hold them.
-use Rattle.std.specs.Prelude.{◌≡◌, ◌≤◌, ℕ, List, [], ◌∷◌, ◌++◌, map, length, take, Option as Maybe, Some, None}
+use Rattle.std.specs.Prelude.{◌≡◌, ◌≤◌, ℕ, List, [], ◌∷◌, ◌++◌, Bool, map, length, take, Option as Maybe, Some, None}
 use Rattle.std.proofs.Math.Option.{Option, none, some}
 use Rattle.rules.specs.Ordered.{Rising, upper}
 use Rattle.rules.specs.Slices.{Slices}
@@ -18,8 +18,11 @@ header_in none = None
 header_in (some s) = Some (header_of s)
 
 -- what is told of an entry
+abbrev pub info : Maybe Header → Bool → FunctionInfo
+info s b = record { slices = s; analyzed = b; fill_1 = 0; fill_2 = 0; fill_4 = 0 }
+
 abbrev pub info_of : Entry → FunctionInfo
-info_of x = record { analyzed = x.analyzed; slices = header_in x.slices }
+info_of x = info (header_in x.slices) x.analyzed
 
 -- the numbers of an entry's lists, if it has any
 abbrev pub numbers_in : Option Slices → List ℕ

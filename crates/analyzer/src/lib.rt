@@ -21,9 +21,13 @@ use walks::{FUNCTIONS, KnownFunctions};
 /// What is known of a function beside its entry and its end.
 #[derive(Clone, Copy, Debug, Default, PartialEq, Eq)]
 pub struct FunctionInfo {
-    pub analyzed: bool,
     /// Of its lists, where there are some.
     pub slices: Option<Header>,
+    pub analyzed: bool,
+    /// Zeros, which fill the row up: of rows with a gap the compiler makes an empty table elsewhere on the stack, and copies it.
+    pub fill_1: u8,
+    pub fill_2: u16,
+    pub fill_4: u32,
 }
 
 /// The entries. Their ends stand apart from the rest, since a walk looks them up at each word.
@@ -79,7 +83,8 @@ impl AnalyzerState {
         None
     }
 
-    /// The entries that are analyzed, with lists and no end.
+    /// The entries that are analyzed, with lists and no end. (Not inlined: the table as it is filled is not to lie below the walks, too.)
+    #[inline(never)]
     pub fn unfinalized(&self) -> ArrayVec<u64, FUNCTIONS>
         ensures { (cap : maps.Capacity) (lists : List ℕ) (es : List Entry) →
             Holds cap self.now lists es →

@@ -127,8 +127,11 @@ impl AnalyzerState {
         let total = until + total_len(&self.infos[at + 1..]);
         replace(lists, from, until, total, slices, header.len())?;
         self.infos[at] = FunctionInfo {
-            analyzed: true,
             slices: Some(header),
+            analyzed: true,
+            fill_1: 0,
+            fill_2: 0,
+            fill_4: 0,
         };
         self.known.insert(key, end.unwrap_or(0))
     }

@@ -18,7 +18,7 @@ use Rattle.tables.specs.declared.maps.Row.{Row}
 use Rattle.obj_info.specs.Info.{some_nonzero}
 use Rattle.numbers.specs.Stored.{header_of}
 use Rattle.numbers.specs.declared.Header.{Header}
-use Rattle.analyzer.specs.Table.{header_in, info_of, flat, Holds}
+use Rattle.analyzer.specs.Table.{header_in, info, info_of, flat, Holds}
 use Rattle.rules.specs.Map.{Capacity}
 use Rattle.analyzer.specs.declared.FunctionInfo.{FunctionInfo}
 use Rattle.analyzer.specs.declared.AnalyzerState.{AnalyzerState}
@@ -71,7 +71,7 @@ rows_append (x ∷ es) fs = ap (λ (l : List ℕ). result_row x ++ l) (rows_appe
 
 -- of no entry
 abbrev pub no_info : FunctionInfo
-no_info = record { analyzed = false; slices = None }
+no_info = info None false
 
 module _ (entries : List Row) (infos : List FunctionInfo) (before : List ℕ) (i : ℕ) (rows : List ℕ) (g : Going entries infos before i rows) (lt : i < length infos) where
   -- the next row is put

@@ -61,6 +61,8 @@ fn process_entry_point(
 }
 
 /// What is known beforehand becomes entries, which are walked once, and then the entry point; entries that are added meanwhile are not.
+/// (Not inlined: the keys are not to lie below the walks of all later rounds.)
+#[inline(never)]
 pub fn walk_given(
     state: &mut AnalyzerState,
     lists: &mut [u64],
