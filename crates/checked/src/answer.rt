@@ -6,13 +6,13 @@ use std::io::{self, Write};
 
 pub fn answer<W: Write>(out: &mut W, image: &Image) -> io::Result<()> {
     let obj = ObjInfo::new(
-        &image.sections,
-        &image.bytes,
-        &image.outcomes,
-        &image.functions,
-        &image.objects,
-        &image.skips,
-        &image.entry,
+        image.sections,
+        image.bytes,
+        image.outcomes,
+        image.functions,
+        image.objects,
+        image.skips,
+        image.entry,
     );
     match obj {
         Ok(obj) => {

@@ -14,24 +14,18 @@
 mod answer;
 mod named;
 
-use std::io::{self, BufReader, BufWriter};
-use streams::{Ending, Lossy};
+use lines::{Bytes, Numbers};
+use streams::{Ending, FixedReader, FixedWriter, Input, Output};
 
-/// How much is read at a time.
-const READ_ROOM: usize = 4096;
-
-fn main(rt: HostRuntime) -> io::Result<()> {
-    let alloc = rt.alloc();
-    let input = Ending { inner: rt.reader() };
-    let output = Lossy {
-        inner: io::writer(&rt),
-    };
-    let mut from = BufReader::with_capacity(alloc, READ_ROOM, input)?;
-    let mut out = BufWriter::new(alloc, output)?;
-    lines::answer_all(
-        alloc,
-        &mut from,
-        &mut out,
+// What can be read is answered, and what can be written of the answers is written: nothing else is said of what fails.
+fn main() {
+    let mut numbers: Numbers = [0; 400000];
+    let mut bytes: Bytes = [0; 300000];
+    let _ = lines::answer_all(
+        &mut FixedReader::new(Ending { inner: Input }),
+        &mut numbers,
+        &mut bytes,
+        &mut FixedWriter::new(Output),
         |out, image| answer::answer(out, image),
-    )
+    );
 }

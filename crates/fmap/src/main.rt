@@ -10,6 +10,7 @@ ghost use Rattle.printing.specs.Told.{Begun};
 ghost use Rattle.mapping.specs.Answers.{fmap_text, text_room};
 
 use std::io::{self, Read, Write};
+use streams::{Input, Output};
 
 /// How much is read at most.
 type Text = [u8; 1048576];
@@ -62,8 +63,8 @@ fn write_map<R: Read, W: Write>(
 }
 
 // What can be read is mapped, and what can be written of the map is written: nothing else is said of what fails.
-fn main(rt: HostRuntime) {
+fn main() {
     let mut text: Text = [0; 1048576];
     let mut map: Map = [0; 1489000];
-    let _ = write_map(&mut rt.reader(), &mut text, &mut map, &mut io::writer(&rt));
+    let _ = write_map(&mut Input, &mut text, &mut map, &mut Output);
 }

@@ -17,10 +17,12 @@
 mod digits;
 mod image;
 
+ghost use Rattle.std.specs.Prelude.{◌≡◌, length};
+
 use image::Reading;
-pub use image::{Image, Unread};
-use std::alloc::Global;
-use std::io::{self, BufRead, BufReader, ErrorKind, Read, Write};
+pub use image::{Bytes, Image, Numbers, Unread};
+use std::io::{self, Read, Write};
+use streams::FixedReader;
 
 /// After so many images the rest of the input is passed over.
 const MOST_IMAGES: usize = 1000000;
@@ -29,14 +31,23 @@ const MOST_IMAGES: usize = 1000000;
 const MOST_READS: usize = 1000000;
 
 /// The image that comes next, as far as the input goes.
-fn read_image<R: Read>(alloc: Global, from: &mut BufReader<R>) -> io::Result<Reading> {
-    let mut reading = Reading::new(alloc);
+fn read_image<R: Read>(
+    from: &mut FixedReader<R>,
+    numbers: &mut [u32],
+    bytes: &mut [u8],
+) -> io::Result<Reading>
+    requires numbers { length numbers.old ≡ 400000 }
+    requires bytes { length bytes.old ≡ 300000 }
+{
+    let mut reading = Reading::new();
     for _ in 0..MOST_READS {
-        let Ok(taken) = reading.take_all(from.buffer()) else {
-            return Err(io::Error::from(ErrorKind::OutOfMemory));
-        };
+        let taken = reading.take_all(from.buffer(), numbers, bytes);
         from.consume(taken);
-        if reading.is_ended() || from.fill_buf()?.is_empty() {
+        if reading.is_ended() {
+            break;
+        }
+        from.fill()?;
+        if from.buffer().is_empty() {
             break;
         }
     }
@@ -46,22 +57,25 @@ fn read_image<R: Read>(alloc: Global, from: &mut BufReader<R>) -> io::Result<Rea
 /// What is written for each image that is read: what `answer` writes, or why there is no answer, and a line `=`. It is written before more
 /// is read than the image needs.
 pub fn answer_all<R: Read, W: Write, F: Fn(&mut W, &Image) -> io::Result<()>>(
-    alloc: Global,
-    from: &mut BufReader<R>,
+    from: &mut FixedReader<R>,
+    numbers: &mut Numbers,
+    bytes: &mut Bytes,
     out: &mut W,
     answer: F,
 ) -> io::Result<()>
-    requires { F.IsAlwaysCallable answer }
+    requires numbers { length numbers.old ≡ 400000 }
+    requires bytes { length bytes.old ≡ 300000 }
+    requires answers { F.IsAlwaysCallable answer }
 {
     for _ in 0..MOST_IMAGES {
-        let reading = read_image(alloc, from)?;
+        let reading = read_image(from, numbers, bytes)?;
         if !reading.is_ended() {
             if reading.is_open() {
                 writeln!(out, "{}\n=", Unread::Malformed)?;
             }
             break;
         }
-        match reading.image() {
+        match reading.image(numbers, bytes) {
             Ok(image) => answer(out, &image)?,
             Err(unread) => writeln!(out, "{unread}")?,
         }

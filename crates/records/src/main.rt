@@ -27,7 +27,7 @@ use lists::Lists;
 use operations::{Line, Operation};
 use std::fmt::{Display, Write as _};
 use std::io::{self, Read, Write};
-use streams::{Ending, Lossy};
+use streams::{Ending, Input, Output};
 use table::Table;
 
 /// Room for what is read of the input at a time.
@@ -99,10 +99,6 @@ fn perform_all<R: Read, W: Write>(from: &mut R, to: &mut W) -> io::Result<()> {
     print_line(to, format_args!("disagreements {apart}"))
 }
 
-fn main(rt: HostRuntime) {
-    let mut from = Ending { inner: rt.reader() };
-    let mut to = Lossy {
-        inner: io::writer(&rt),
-    };
-    let _ = perform_all(&mut from, &mut to);
+fn main() {
+    let _ = perform_all(&mut Ending { inner: Input }, &mut Output);
 }

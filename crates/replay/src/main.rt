@@ -13,7 +13,7 @@ ghost use Rattle.mapping.specs.Answers.{fmap_text, text_room};
 ghost use Rattle.replay.specs.Rest.{Rest, kept, LineEnded};
 
 use std::io::{self, Read, Write};
-use streams::{Ending, Lossy};
+use streams::{Ending, Input, Output};
 
 /// The room that `fmap` has for an image, which is shorter.
 const IMAGE_ROOM: usize = 1048576;
@@ -145,12 +145,13 @@ fn replay<R: Read, W: Write>(
 }
 
 // What can be read is replayed, and what can be written of the answers is written: nothing else is said of what fails.
-fn main(rt: HostRuntime) {
+fn main() {
     let mut text: Text = [0; 1114112];
     let mut map: Map = [0; 1489000];
-    let mut from = Ending { inner: rt.reader() };
-    let mut to = Lossy {
-        inner: io::writer(&rt),
-    };
-    let _ = replay(&mut from, &mut text, &mut map, &mut to);
+    let _ = replay(
+        &mut Ending { inner: Input },
+        &mut text,
+        &mut map,
+        &mut Output,
+    );
 }

@@ -1,2 +1,2 @@
--- Lemmas on parts of lists.
+-- Parts of lists.
 pub mod Parts

@@ -1,9 +1,13 @@
-//! Streams where nothing that fails ends the program: a read that fails is the end of what is read, and what cannot be written is passed
-//! over. The programs wrap their standard input and output in these, and nothing below `main` knows of it.
+//! The streams of the programs, which take no heap. Standard input and output never fail: a read that fails is the input's end, and what
+//! cannot be written is passed over. A reader and a writer with room of a fixed size lie before any others.
 #![tactic(auto)]
 
 mod ending;
-mod lossy;
+mod fixed_reader;
+mod fixed_writer;
+mod standard;
 
 pub use ending::Ending;
-pub use lossy::Lossy;
+pub use fixed_reader::FixedReader;
+pub use fixed_writer::FixedWriter;
+pub use standard::{Input, Output};

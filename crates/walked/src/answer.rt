@@ -1,16 +1,16 @@
 //! The walks of an image, and their lines.
-ghost use Rattle.std.specs.Prelude.{◌≡◌, ◌==◌, ◌+◌, ◌*◌, ◌^◌, ◌%◌, ◌++◌, IfOk, vec_len};
+ghost use Rattle.std.specs.Prelude.{◌≡◌, ◌==◌, ◌+◌, ◌*◌, ◌^◌, ◌%◌, ◌++◌, length, min};
 ghost use Rattle.std.specs.List.{list_all};
 
+use arrayvec::ArrayVec;
 use faults::Fault;
 use lines::Image;
 use numbers::Header;
 use one_function::Function;
-use std::alloc::{AllocError, Global};
 use std::fmt;
 use std::io::{self, Write};
 
-/// The longest list that is lent for a result.
+/// The longest list that is lent for a result, and more numbers than the known functions may have.
 const MOST: usize = 4096;
 
 /// An address with its section's number before it; 0 is none.
@@ -32,12 +32,11 @@ fn joined(section: u32, address: u32) -> u64
     u64::from(section) * 0x1_0000_0000 + u64::from(address)
 }
 
-/// A walk that is asked for, and how long the list is that is lent for its result.
+/// A walk that is asked for.
 #[derive(Clone, Copy, Debug)]
 struct Asked {
     start: u64,
     end: u64,
-    room: usize,
 }
 
 // ---- the lent list
@@ -49,11 +48,18 @@ fn filled(index: usize) -> u64
     (index as u64).wrapping_add(0x5A5A_0000_0000)
 }
 
-/// A list to be lent.
-fn lent(alloc: Global, room: usize) -> Result<Vec<u64>, AllocError>
-    ensures { IfOk result (λ list. vec_len list ≡ room) }
+/// The part of a list that is lent for a result, of the length that is asked for, or all of it.
+fn lent(list: &mut [u64], room: u32) -> &mut [u64]
+    ensures { length result.now ≡ min room (length list.old) }
 {
-    (0..room).map(filled).collect(alloc)
+    let room = (room as usize).min(list.len());
+    &mut list[..room]
+}
+
+fn fill(list: &mut [u64]) {
+    for (index, value) in list.iter_mut().enumerate() {
+        *value = filled(index);
+    }
 }
 
 /// What is said of a lent list past what was stored in it.
@@ -195,47 +201,48 @@ fn print_walk<W: Write>(
 
 // ---- walks
 
-/// The answer to one walk, and what the lent list holds then.
-fn walk(
-    alloc: Global,
-    image: &Image,
-    known: &[u64],
-    asked: Asked,
-) -> Result<(Result<Function, Fault>, Vec<u64>), AllocError> {
-    let mut list = lent(alloc, asked.room)?;
-    let answer = one_function::walk_function(
-        &image.sections,
-        &image.bytes,
-        &image.outcomes,
-        &image.functions,
-        &image.objects,
-        &image.skips,
-        &image.entry,
+/// The answer to one walk, whose lists are put into the lent list.
+fn walk(image: &Image, known: &[u64], asked: Asked, list: &mut [u64]) -> Result<Function, Fault> {
+    fill(list);
+    one_function::walk_function(
+        image.sections,
+        image.bytes,
+        image.outcomes,
+        image.functions,
+        image.objects,
+        image.skips,
+        image.entry,
         known,
         asked.start,
         asked.end,
-        &mut list,
-    );
-    Ok((answer, list))
+        list,
+    )
+}
+
+/// The addresses that a list's halves make, as far as there is room: more than a walk takes.
+fn known_of(halves: &[u32]) -> ArrayVec<u64, MOST> {
+    let mut known = ArrayVec::new();
+    for halves in halves.chunks_exact(2) {
+        if let [section, address] = halves {
+            let _ = known.try_push(joined(*section, *address));
+        }
+    }
+    known
 }
 
 /// The answer of an image: its walks, in order.
-pub fn answer<W: Write>(alloc: Global, out: &mut W, image: &Image) -> io::Result<()> {
-    let mut known = Vec::new(alloc);
-    for halves in image.known.chunks_exact(2) {
-        if let [section, address] = halves {
-            known.push(joined(*section, *address))?;
-        }
-    }
+pub fn answer<W: Write>(out: &mut W, image: &Image) -> io::Result<()> {
+    let known = known_of(image.known);
+    let mut list = [0; MOST];
     for row in image.walks.chunks_exact(5) {
         if let [start_section, start, end_section, end, room] = row {
             let asked = Asked {
                 start: joined(*start_section, *start),
                 end: joined(*end_section, *end),
-                room: (*room as usize).min(MOST),
             };
-            let (answer, list) = walk(alloc, image, &known, asked)?;
-            print_walk(out, answer, &list)?;
+            let list = lent(&mut list, *room);
+            let answer = walk(image, known.as_slice(), asked, list);
+            print_walk(out, answer, list)?;
         }
     }
     Ok(())

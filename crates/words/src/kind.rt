@@ -5,8 +5,10 @@ use ppc::words::{
 };
 use std::fmt;
 
-#[derive(Clone, Copy, Debug, PartialEq, Eq)]
+#[derive(Clone, Copy, Debug, Default, PartialEq, Eq)]
 pub enum Kind {
+    // the default fills a list's room
+    #[default]
     Blr,
     Nop,
     Rfi,
