@@ -3,8 +3,8 @@
    Link with libwoqchari.a (tools/library builds it). The library allocates nothing, keeps nothing between calls, and reads and writes
    nothing but what it is lent. docs/ARCHITECTURE.md says more of each list.
 
-   A call takes up to some 242 KB of stack (1,024 bytes each), whatever it is lent: a thread of 242 KB, its own needs among them, ran on x86-64,
-   and one of 238 crashed; the code does not recurse. 256 KB are enough for a thread that does little else, and 320 leave room for the caller. */
+   A call takes up to some 175 KB of stack (1,024 bytes each), whatever it is lent: measured on 2,625 images of all kinds, on x86-64. A thread
+   of 174 KB, its own needs among them, crashed, and one of 176 KB did not; the code does not recurse. 256 KB leave room for the caller. */
 #ifndef WOQCHARI_H
 #define WOQCHARI_H
 
