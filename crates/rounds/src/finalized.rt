@@ -38,8 +38,8 @@ fn keep_settled(
     Ok(true)
 }
 
-// The possible blocks of the function at `key` are settled, from the lowest address of its section on. (Not inlined: the trial walk's tables
-// are not to lie on the stack while the keys of a round are put together.)
+// The possible blocks of the function at `key` are settled, from the lowest address of its section on. (Not inlined: the trial walk's
+// tables are not to lie on the stack while the keys of a round are put together.)
 #[inline(never)]
 fn settle(
     walk: &mut Walk,
