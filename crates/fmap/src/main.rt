@@ -10,7 +10,7 @@ ghost use Rattle.printing.specs.Told.{Begun};
 ghost use Rattle.mapping.specs.Answers.{fmap_text, text_room};
 
 use std::io::{self, Read, Write};
-use streams::{Input, Output};
+use streams::{Output, WholeInput};
 
 /// How much is read at most.
 type Text = [u8; 1048576];
@@ -66,5 +66,5 @@ fn write_map<R: Read, W: Write>(
 fn main() {
     let mut text: Text = [0; 1048576];
     let mut map: Map = [0; 1489000];
-    let _ = write_map(&mut Input, &mut text, &mut map, &mut Output);
+    let _ = write_map(&mut WholeInput::new(), &mut text, &mut map, &mut Output);
 }

@@ -27,7 +27,7 @@ use lists::Lists;
 use operations::{Line, Operation};
 use std::fmt::{Display, Write as _};
 use std::io::{self, Read, Write};
-use streams::{Ending, Input, Output};
+use streams::{Input, Output};
 use table::Table;
 
 /// Room for what is read of the input at a time.
@@ -100,5 +100,5 @@ fn perform_all<R: Read, W: Write>(from: &mut R, to: &mut W) -> io::Result<()> {
 }
 
 fn main() {
-    let _ = perform_all(&mut Ending { inner: Input }, &mut Output);
+    let _ = perform_all(&mut Input, &mut Output);
 }

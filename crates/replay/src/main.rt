@@ -13,7 +13,7 @@ ghost use Rattle.mapping.specs.Answers.{fmap_text, text_room};
 ghost use Rattle.replay.specs.Rest.{Rest, kept, LineEnded};
 
 use std::io::{self, Read, Write};
-use streams::{Ending, Input, Output};
+use streams::{Input, Output};
 
 /// The room that `fmap` has for an image, which is shorter.
 const IMAGE_ROOM: usize = 1048576;
@@ -148,10 +148,5 @@ fn replay<R: Read, W: Write>(
 fn main() {
     let mut text: Text = [0; 1114112];
     let mut map: Map = [0; 1489000];
-    let _ = replay(
-        &mut Ending { inner: Input },
-        &mut text,
-        &mut map,
-        &mut Output,
-    );
+    let _ = replay(&mut Input, &mut text, &mut map, &mut Output);
 }

@@ -2,12 +2,10 @@
 //! cannot be written is passed over. A reader and a writer with room of a fixed size lie before any others.
 #![tactic(auto)]
 
-mod ending;
 mod fixed_reader;
 mod fixed_writer;
 mod standard;
 
-pub use ending::Ending;
 pub use fixed_reader::FixedReader;
 pub use fixed_writer::FixedWriter;
-pub use standard::{Input, Output};
+pub use standard::{Input, Output, WholeInput};

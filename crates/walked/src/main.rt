@@ -20,14 +20,14 @@
 mod answer;
 
 use lines::{Bytes, Numbers};
-use streams::{Ending, FixedReader, FixedWriter, Input, Output};
+use streams::{FixedReader, FixedWriter, Input, Output};
 
 // What can be read is answered, and what can be written of the answers is written: nothing else is said of what fails.
 fn main() {
     let mut numbers: Numbers = [0; 400000];
     let mut bytes: Bytes = [0; 300000];
     let _ = lines::answer_all(
-        &mut FixedReader::new(Ending { inner: Input }),
+        &mut FixedReader::new(Input),
         &mut numbers,
         &mut bytes,
         &mut FixedWriter::new(Output),

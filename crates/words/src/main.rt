@@ -17,7 +17,7 @@ use ppc::fields::{field, field_ra, field_rb, field_rd};
 use ppc::registers::{is_branch, register_fields};
 use std::convert::AsStr;
 use std::io::{self, Read, Write};
-use streams::{Ending, FixedWriter, Input, Output};
+use streams::{FixedWriter, Input, Output};
 
 /// Room for what is read of the input at a time.
 type Space = [u8; 4096];
@@ -152,5 +152,5 @@ fn answer_all<R: Read, W: Write>(from: &mut R, out: &mut W) -> io::Result<()> {
 
 // What can be read is answered, and what can be written of the answers is written: nothing else is said of what fails.
 fn main() {
-    let _ = answer_all(&mut Ending { inner: Input }, &mut FixedWriter::new(Output));
+    let _ = answer_all(&mut Input, &mut FixedWriter::new(Output));
 }
