@@ -5,6 +5,7 @@ ghost use Rattle.std.specs.List.{repeat};
 ghost use Rattle.lines.specs.Lists.{Lends};
 
 use crate::digits::{Number, value_of};
+use std::alloc::{AllocError, AllocFailed};
 use std::fmt;
 
 /// Room for 65,537 outcomes, the longest symbol lists that can be told from too long ones, and the rest.
@@ -39,6 +40,8 @@ pub struct Image<'a> {
 pub enum Unread {
     Malformed,
     TooLong,
+    /// what a caller says whose own memory gave out: the lists lie in lent arrays, so no image is unread for that
+    OutOfMemory,
 }
 
 impl fmt::Display for Unread {
@@ -46,7 +49,24 @@ impl fmt::Display for Unread {
         f.write_str(match self {
             Unread::Malformed => "?",
             Unread::TooLong => "!",
+            Unread::OutOfMemory => "out of memory",
         })
+    }
+}
+
+impl From<AllocError> for Unread {
+    fn from(_error: AllocError) -> Unread
+        ensures { result ≡ Unread.OutOfMemory }
+    {
+        Self::OutOfMemory
+    }
+}
+
+impl<T: Drop> From<AllocFailed<T>> for Unread {
+    fn from(_failed: AllocFailed<T>) -> Unread
+        ensures { result ≡ Unread.OutOfMemory }
+    {
+        Unread::from(AllocError)
     }
 }
 
