@@ -4,6 +4,7 @@ use Rattle.std.specs.Prelude.{Some, None}
 use Rattle.rules.specs.Choice.{ok, fault, ◌>>=◌}
 use Rattle.rules.specs.Loop.{holds_at, loop_stop}
 use Rattle.rules.specs.Known.{Entry}
+use Rattle.rules.specs.Slices.{Slices}
 use Rattle.rules.specs.Step as steps
 use Rattle.rules.specs.Settle as rules
 use Rattle.rules.proofs.SettlingEnds.{Few, settle_all_step, unsettled_falls}
@@ -11,9 +12,10 @@ use Rattle.obj_info.specs.Info.{some_nonzero}
 use Rattle.walks.specs.Around.{Knows, around_of}
 use Rattle.walks.specs.declared.around.Around.{Around}
 use Rattle.walks.proofs.Options.{found, not_found}
+use Rattle.walks.proofs.Steps.{after_ok, after_err}
 use Rattle.passes.proofs.Images.{aimed_of}
 use Rattle.passes.proofs.Loops.{goes_on, fails, entries_of, knows}
-use Rattle.settling.specs.Settled.{settled_block}
+use Rattle.settling.specs.Settled.{settled_block, settled}
 
 -- how much is left, whatever functions are known
 abbrev pub left : Around → ℕ → Bool → rules.Settling → ℕ
@@ -56,13 +58,23 @@ module _ (a : Around) (low : ℕ) (last : Bool) (t : rules.Settling) (few : leng
         let e = around_of a es in
         goes_on (rules.settle_all e low last) (rules.settle_step e low last) s t same (again es) u (made es known ∙ its_step t k next e low last)
 
-  pub failed : (n : ℕ) (es : List Entry) (s : rules.Settling) → fault n ≡ settled_block (around_of a es) low last k t.slices → rules.settle_all (around_of a es) low last t ≡ rules.settle_all (around_of a es) low last s → fault n ≡ rules.settle_all (around_of a es) low last s
-  failed n es s h same =
+  pub failed_whole : (n : ℕ) (es : List Entry) (s : rules.Settling) → fault n ≡ settled_block (around_of a es) low last k t.slices → rules.settle_all (around_of a es) low last t ≡ rules.settle_all (around_of a es) low last s → fault n ≡ rules.settle_all (around_of a es) low last s
+  failed_whole n es s h same =
       let e = around_of a es in
       fails (rules.settle_all e low last) (rules.settle_step e low last) s t same (again es) n (h ∙ its_step t k next e low last)
 
+  -- of the lists alone
+  pub failed : (n : ℕ) (es : List Entry) (s : Slices) → fault n ≡ settled_block (around_of a es) low last k t.slices → rules.settle_all (around_of a es) low last t ≡ rules.settle_all (around_of a es) low last (rules.settling s low) → fault n ≡ settled (around_of a es) low last s
+  unfolding settled
+  failed n es s h same = sym (after_err _ (failed_whole n es (rules.settling s low) h same))
+
 -- none is left
-pub ended : (e : steps.Around) (low : ℕ) (last : Bool) (t s : rules.Settling) → None ≡ some_nonzero (rules.next_possible_block t) → rules.settle_all e low last t ≡ rules.settle_all e low last s → ok t ≡ rules.settle_all e low last s
+pub ended_whole : (e : steps.Around) (low : ℕ) (last : Bool) (t s : rules.Settling) → None ≡ some_nonzero (rules.next_possible_block t) → rules.settle_all e low last t ≡ rules.settle_all e low last s → ok t ≡ rules.settle_all e low last s
 unfolding rules.settle_all
-ended e low last t s h same =
+ended_whole e low last t s h same =
     sym (loop_stop rules.is_unsettled (rules.settle_step e low last) (rules.unsettled e low last) t (none_left t h)) ∙ same
+
+-- of the lists alone
+pub ended : (e : steps.Around) (low : ℕ) (last : Bool) (t : rules.Settling) (s : Slices) → None ≡ some_nonzero (rules.next_possible_block t) → rules.settle_all e low last t ≡ rules.settle_all e low last (rules.settling s low) → ok t.slices ≡ settled e low last s
+unfolding settled
+ended e low last t s h same = sym (after_ok _ (ended_whole e low last t (rules.settling s low) h same))

@@ -5,7 +5,7 @@ ghost use Rattle.std.specs.Prelude.{◌≡◌, ◌≤◌, ℕ, Bool, List, lengt
 ghost use Rattle.rules.specs.Known.{Entry};
 ghost use Rattle.rules.specs.Slices as lists;
 ghost use Rattle.rules.specs.Settle as rules;
-ghost use Rattle.settling.specs.Settled.{address_from, settling_from, settled_block};
+ghost use Rattle.settling.specs.Settled.{settled, address_from, settling_from, settled_block};
 ghost use Rattle.faults.specs.Outcome.{outcome};
 ghost use Rattle.obj_info.specs.Info.{some_nonzero};
 ghost use Rattle.slices.specs.View.{slices_of};
@@ -109,10 +109,13 @@ fn settle_block(
 /// All possible blocks from the address `low` on that can be settled, of the lists of a walk; from where a further one would be looked at
 /// then. In the last pass those of which nothing is known are the function's.
 pub fn settle_all(walk: &mut Walk, around: &Around, low: u64, last: bool) -> Result<Current, Fault>
-    ensures { (es : List Entry) →
+    ensures whole { (es : List Entry) →
         Knows around.now.known.now es →
         settling_from (slices_of walk.new.slices) result ≡ rules.settle_all (around_of around.now es) low last
         (rules.settling (slices_of walk.old.slices) low) }
+    ensures lists { (es : List Entry) →
+        Knows around.now.known.now es →
+        outcome (slices_of walk.new.slices) result ≡ settled (around_of around.now es) low last (slices_of walk.old.slices) }
 {
     let mut current = Current::At(low);
     while let Some(block) = next_possible_block(&walk.slices, current) {
