@@ -1,6 +1,9 @@
 // Possible blocks settled, the lowest first: each is walked as the function's, becomes a reference, or stays possible.
 #![tactic(auto)]
 
+#[cfg(test)]
+mod tests;
+
 ghost use Rattle.std.specs.Prelude.{◌≡◌, ◌≤◌, ℕ, Bool, List, length};
 ghost use Rattle.rules.specs.Known.{Entry};
 ghost use Rattle.rules.specs.Slices as lists;
