@@ -19,14 +19,15 @@ mod image;
 #[cfg(test)]
 mod tests;
 
-ghost use Rattle.std.specs.Prelude.{◌≡◌, length, IfOk, IfSome};
+ghost use Rattle.std.specs.Prelude.{◌≡◌, ◌≢◌, length, IfOk, IfErr, IfSome};
+ghost use Rattle.std.specs.IoError.{error_kind};
 ghost use Rattle.std.specs.Str.Lossy.{utf8_lossy};
 ghost use Rattle.std.specs.String.{string_bytes};
 
 use image::Reading;
 pub use image::{Bytes, Image, Numbers, Unread};
 use std::alloc::Global;
-use std::io::{self, Read, Write};
+use std::io::{self, ErrorKind, Read, Write};
 use streams::FixedReader;
 
 /// After so many images the rest of the input is passed over.
@@ -37,7 +38,8 @@ const MOST_READS: usize = 1000000;
 
 /// All that a reader gives, on the heap. Bytes that are no text become a character that stands in no line but a remark.
 pub fn read_text<R: Read + Drop>(alloc: Global, mut from: R) -> io::Result<String>
-    ensures { IfOk result (λ text. IfSome (R.remaining from) (λ bytes. string_bytes text ≡ utf8_lossy bytes)) }
+    ensures text { IfOk result (λ text. IfSome (R.remaining from) (λ bytes. string_bytes text ≡ utf8_lossy bytes)) }
+    ensures retried { IfErr result (λ e. error_kind e ≢ ErrorKind.Interrupted) }
 {
     let mut bytes = Vec::new(alloc);
     from.read_to_end(&mut bytes)?;

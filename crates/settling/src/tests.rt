@@ -1,4 +1,5 @@
-//! That settling comes to an end without a fault, and what it answers then: what no contract says of an image.
+//! An image by hand, and what document 01 says comes of its possible blocks. The contract says it by the rules' definitions; what is
+//! answered beside the lists no program prints.
 use crate::{Current, settle_all};
 use obj_info::ObjInfo;
 use std::test::Fail;
